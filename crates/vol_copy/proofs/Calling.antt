@@ -1,26 +1,23 @@
 -- One call of a target at rest.
-use Rattle.std.proofs.Common.{◌≡◌, ◌⊎◌, ◌<◌, ℕ, List, ◌∷◌, length, Bool, true, false, Option, Some, None, refl, sym, ◌∙◌, ap, subst, ⊎_elim, inl, inr}
+use Rattle.std.proofs.Common.{◌≡◌, ◌⊎◌, ℕ, List, ◌∷◌, true, sym, subst, ⊎_elim}
 use Rattle.geometry.specs.declared.geometry.Geometry.{Geometry}
 use Rattle.nor_core.specs.declared.state.NorState.{Ghosts as NorOf}
 use Rattle.nor_core.proofs.Cuts.{wider}
 use Rattle.table_model.specs.declared.error.FsErr.TheVariants.{DeviceFault}
-use Rattle.table_model.specs.Table.{File, Open, State}
+use Rattle.table_model.specs.Table.{File, State}
 use Rattle.table_model.specs.Ask.{Ask}
 use Rattle.table_model.specs.Reply.{Answer, Refuses}
-use Rattle.table_model.specs.Outcome.{Outcome}
 use Rattle.table_model.specs.Flat.{answer}
 use Rattle.table_model.specs.Steps.{steps}
 use Rattle.table_model.specs.Window.{IsAmong}
 use Rattle.image_model.specs.Tables.{table_of}
-use Rattle.call_model.specs.Safe.{IsSafe}
 use Rattle.call_model.specs.Closed.{with_files}
 use Rattle.volume.specs.declared.volume.Volume.{Volume}
-use Rattle.volume_run.specs.Resting.{IsAtRest, IsQuiet, Rested, is_quiet}
+use Rattle.volume_run.specs.Resting.{IsAtRest, Rested, is_quiet}
 use Rattle.volume_run.proofs.Quieting.{quiet-calls}
 use Rattle.copy_model.specs.Steps.{writes_none}
 use Rattle.copy_model.specs.Under.{IsTable, IsUnder}
 use Rattle.copy_model.specs.Tasks.{Task}
-use Rattle.copy_model.specs.Filling.{with_first}
 use Rattle.copy_model.proofs.Stepping.{one-step}
 use Rattle.copy_model.proofs.Shapes.{IsClosed}
 use Rattle.vol_copy.specs.Stages.{Rests, CutsUnder, Leads}

@@ -1,11 +1,9 @@
 -- A call of the target never stops a copy for the source's fault.
-use Rattle.std.proofs.Common.{◌≡◌, ℕ, List, length, Bool, true, false, Option, Some, None, Result, Ok, Err, cond, sym, ◌∙◌}
+use Rattle.std.proofs.Common.{◌≡◌, ℕ, length, Bool, true, false, Option, Some, None, Result, Ok, Err, cond, sym, ◌∙◌}
 use Rattle.std.specs.Prelude.{nat_lt}
 use Rattle.nor_core.specs.declared.state.NorState.{Ghosts as NorOf}
 use Rattle.table_model.specs.declared.error.FsErr.{FsErr}
 use Rattle.table_model.specs.declared.error.FsErr.TheVariants.{NotFound, Full as NoRoom, DeviceFault, Damaged}
-use Rattle.table_model.specs.declared.reply.Stat.{Stat}
-use Rattle.table_model.specs.declared.reply.Info.{Info}
 use Rattle.table_model.specs.Ask.{Ask}
 use Rattle.table_model.specs.Reply.{Answer, Fine, Tells, Gives, Shows, Counts, Refuses}
 use Rattle.volume.specs.declared.volume.Volume.{Volume}

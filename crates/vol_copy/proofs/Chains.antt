@@ -1,46 +1,23 @@
 -- What calls of a copy do one after the other.
-use Rattle.std.proofs.Common.{◌≡◌, ◌+◌, ℕ, List, true, Result, Ok, Err, refl, sym, ◌∙◌, subst}
-use Rattle.std.specs.Prelude.{OnOk, IfErr, IsErrAnd}
+use Rattle.std.proofs.Common.{◌≡◌, ◌+◌, ℕ, List, true, Result, Ok, Err, sym, subst}
+use Rattle.std.specs.Prelude.{OnOk, IfErr}
 use Rattle.nor_core.specs.declared.state.NorState.{Ghosts as NorOf}
 use Rattle.table_model.specs.declared.reply.Stat.{Stat}
 use Rattle.table_model.specs.declared.reply.Info.{Info}
-use Rattle.table_model.specs.Table.{File, Open}
 use Rattle.table_model.specs.Ask.{Removes, Renames, Informs}
-use Rattle.call_model.specs.Closed.{with_files}
 use Rattle.volume.specs.declared.volume.Volume.{Volume}
 use Rattle.copy_model.specs.declared.err.CopyErr.{CopyErr}
-use Rattle.copy_model.specs.declared.err.CopyErr.TheVariants.{Full, ToFault}
+use Rattle.copy_model.specs.declared.err.CopyErr.TheVariants.{Full}
 use Rattle.copy_model.specs.Copying.{working}
-use Rattle.copy_model.specs.Filling.{with_first}
 use Rattle.copy_model.specs.Tasks.{Task}
 use Rattle.copy_model.specs.Parts.{IsWhole, IsMarked, IsCleared, IsPassed}
-use Rattle.vol_copy.specs.Stages.{Rests, Works, LacksRoom, CutsUnder, Leads, StopsAs, StopsFrom, OnlyFaults}
+use Rattle.vol_copy.specs.Stages.{Rests, LacksRoom, CutsUnder, Leads, StopsAs, StopsFrom, OnlyFaults}
 use Rattle.vol_copy.specs.Went.{Went, done_as, removed_as, info_as}
-use Rattle.vol_copy.proofs.Composing.{RestsSome, cuts_then}
+use Rattle.vol_copy.proofs.Composing.{rests_some, lacks_some, cuts_then}
 use Rattle.vol_copy.proofs.Places.{clear_cuts, clear_leads, clear_stops, place_cuts, place_leads, place_stops, on_ok, if_err}
 use Rattle.vol_copy.proofs.Lacking.{LacksOf, info_cuts, info_leads, info_stops, give_cuts, give_ends, give_stops}
 
--- an error that `?` passes on
-pub passed : {X : Type 0} (P : CopyErr → Type 0) (result : Result X CopyErr) (why : CopyErr) → IsErrAnd result (λ e. e ≡ why) → P why → IfErr result P
-passed P (Ok x) why same stops = absurd same
-passed P (Err e) why same stops = rw same stops
-
--- what it is, where it is known what was passed on
-pub passed_is : {X : Type 0} (result : Result X CopyErr) (why : CopyErr) → IsErrAnd result (λ e. e ≡ why) → (other : CopyErr) → result ≡ Err other → why ≡ other
-passed_is (Ok x) why same other is = absurd same
-passed_is (Err e) why same other is = let e_is : e ≡ other = cc in sym same ∙ e_is
-
 module _ {M : Type 0} {nor : NorOf M} where
-  -- stages at which a target is at rest
-  pub rests_some : {holds : Task → List File → Type 0} (t : Task) (v : Volume M nor) → Rests holds t v → RestsSome t v
-  rests_some t v has = record { state = with_files t.slots has.files; at = has.at }
-
-  pub works_some : {fd flags : ℕ} {holds : Task → Open → List File → Type 0} (t : Task) (v : Volume M nor) → Works fd flags holds t v → RestsSome t v
-  works_some {fd} {flags} t v has = record { state = with_first t.slots (record { id = has.id; flags = flags; offset = has.offset }) has.files; at = has.at }
-
-  pub lacks_some : {index pages : ℕ} (t : Task) (v : Volume M nor) → LacksRoom index pages t v → RestsSome t v
-  lacks_some t v has = record { state = has.state; at = has.at }
-
   -- a fault of the target alone may stop a copy
   pub faults_stop : (A : Task → Volume M nor → Type 0) (old new : Volume M nor) (why : CopyErr) → OnlyFaults A old why → StopsFrom A old new why
   faults_stop A old new why only = λ t has known. subst (StopsAs t new) (sym (only t has known)) tt

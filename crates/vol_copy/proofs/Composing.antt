@@ -1,13 +1,13 @@
 -- Calls of a copy one after the other.
-use Rattle.std.proofs.Common.{◌≡◌, List, ℕ, true, refl, sym, ◌∙◌, ap, subst}
+use Rattle.std.proofs.Common.{◌≡◌, List, ℕ, true, ◌∙◌, ap, subst}
 use Rattle.geometry.specs.declared.geometry.Geometry.{Geometry}
 use Rattle.nor_core.specs.declared.state.NorState.{Ghosts as NorOf}
-use Rattle.nor_core.specs.Device.{Changes, OnlyReads}
+use Rattle.nor_core.specs.Device.{OnlyReads}
 use Rattle.nor_core.proofs.Cuts.{go_on, wider, unchanged}
-use Rattle.table_model.specs.Table.{File}
-use Rattle.image_model.specs.Tidy.{IsTidy, HasReserve}
+use Rattle.table_model.specs.Table.{File, Open}
+use Rattle.image_model.specs.Tidy.{IsTidy}
 use Rattle.image_model.specs.Tables.{table_of}
-use Rattle.call_model.specs.Safe.{IsSafe, Holds}
+use Rattle.call_model.specs.Safe.{Holds}
 use Rattle.call_model.proofs.Safety.{holds_safe, holds_itself, safe_as}
 use Rattle.header_laws.proofs.Telling.{each-by_id}
 use Rattle.header_laws.proofs.Naming.{each_by_name}
@@ -20,7 +20,7 @@ use Rattle.volume_run.specs.Resting.{IsAtRest}
 use Rattle.copy_model.specs.Tasks.{Task}
 use Rattle.copy_model.specs.Under.{IsTable, IsUnder}
 use Rattle.vol_copy.specs.Ends.{TellsFiles}
-use Rattle.vol_copy.specs.Stages.{CutsUnder, Leads, With}
+use Rattle.vol_copy.specs.Stages.{Rests, Works, LacksRoom, CutsUnder, Leads, With}
 
 -- the table of any image is one
 pub image_table : (g : Geometry) (image : List ℕ) → IsTable (table_of g image)
@@ -36,6 +36,16 @@ module _ {M : Type 0} {nor : NorOf M} where
   pub record RestsSome (t : Task) (v : Volume M nor) : Type 0 where
     pub state : State
     pub at : IsAtRest t.g v state
+
+  -- stages at which it is
+  pub rests_some : {holds : Task → List File → Type 0} (t : Task) (v : Volume M nor) → Rests holds t v → RestsSome t v
+  rests_some t v has = record { state = _; at = has.at }
+
+  pub works_some : {fd flags : ℕ} {holds : Task → Open → List File → Type 0} (t : Task) (v : Volume M nor) → Works fd flags holds t v → RestsSome t v
+  works_some t v has = record { state = _; at = has.at }
+
+  pub lacks_some : {index pages : ℕ} (t : Task) (v : Volume M nor) → LacksRoom index pages t v → RestsSome t v
+  lacks_some t v has = record { state = has.state; at = has.at }
 
   pub rest_tidy : {g : Geometry} {v : Volume M nor} {s : State} → IsAtRest g v s → IsTidy g (nor.bytes v.nor.now)
   rest_tidy rest = rest.stands.stands.image.tidy

@@ -1,8 +1,8 @@
 -- How a copy ends.
-use Rattle.std.proofs.Common.{◌≡◌, ◌<◌, ◌+◌, ℕ, List, [], length, Bool, true, false, Option, Some, None, Result, Ok, Err, refl, sym, ◌∙◌, ap, subst}
-use Rattle.std.specs.Prelude.{position, OnOk, IfOk, IfErr}
+use Rattle.std.proofs.Common.{◌≡◌, ◌<◌, ℕ, List, [], Bool, true, false, Some, None, Result, Ok, Err, refl, sym, ◌∙◌, ap, subst}
+use Rattle.std.specs.Prelude.{position, IfOk, IfErr}
 use Rattle.std.proofs.lemmas.Bool.{false≢true}
-use Rattle.std.specs.Option.{option_map, option_or}
+use Rattle.std.specs.Option.{option_map}
 use Rattle.geometry.specs.declared.geometry.Geometry.{Geometry}
 use Rattle.nor_core.specs.declared.state.NorState.{Ghosts as NorOf}
 use Rattle.nor_core.specs.Device.{OnlyReads}
@@ -10,7 +10,6 @@ use Rattle.nor_core.proofs.Cuts.{wider, reads_then}
 use Rattle.table_model.specs.Table.{File, same_text, file_named}
 use Rattle.table_model.specs.Room.{has_room}
 use Rattle.image_model.specs.Places.{IsImage}
-use Rattle.image_model.specs.Tables.{table_of}
 use Rattle.call_model.specs.Closed.{with_files}
 use Rattle.vol_mount.specs.declared.reader.Reader.{Reader}
 use Rattle.vol_mount.specs.Readers.{IsSameReader}
@@ -19,18 +18,18 @@ use Rattle.volume_run.specs.Resting.{IsAtRest}
 use Rattle.copy_model.specs.declared.err.Copied.{Copied}
 use Rattle.copy_model.specs.declared.err.CopyErr.{CopyErr}
 use Rattle.copy_model.specs.declared.err.CopyErr.TheVariants.{BadName, Full, FromFault, ToFault, Damaged, Refused}
-use Rattle.copy_model.specs.Copying.{working, without_name, copied, copy_steps}
-use Rattle.copy_model.specs.Stops.{full_as, first_full, bad_place, copy_stop}
+use Rattle.copy_model.specs.Copying.{working, copied, copy_steps}
+use Rattle.copy_model.specs.Stops.{full_as, first_full, copy_stop}
 use Rattle.copy_model.specs.Tasks.{Task, begins_with, stops_at}
-use Rattle.copy_model.specs.Under.{IsUnder, IsCopied, IsAllThere}
+use Rattle.copy_model.specs.Under.{IsCopied, IsAllThere}
 use Rattle.copy_model.specs.Parts.{IsUpTo}
-use Rattle.vol_copy.specs.Ends.{TellsFiles, alike_of, CutsCopy, IsDone, IsFull, Ends, EndsFrom}
-use Rattle.vol_copy.specs.Stages.{Rests, With, CutsUnder, Leads, IsShort, StopsAs, StopsFrom, OnlyFaults}
+use Rattle.vol_copy.specs.Ends.{TellsFiles, alike_of, CutsCopy, IsDone, Ends, EndsFrom}
+use Rattle.vol_copy.specs.Stages.{Rests, With, CutsUnder, Leads, StopsFrom, OnlyFaults}
 use Rattle.vol_copy.specs.Seen.{Idles}
 use Rattle.vol_copy.specs.Turns.{IsFirst, HasFirstRoom, IsReady, HasNoWorking, IsAllUpTo, IsThrough, StopsFirst}
-use Rattle.vol_copy.proofs.Composing.{cuts_then, cuts_of, tells_on}
+use Rattle.vol_copy.proofs.Composing.{rests_some, cuts_then, cuts_of, tells_on}
 use Rattle.vol_copy.proofs.Fitting.{are_fit, no_working}
-use Rattle.vol_copy.proofs.Looking.{rests_some, rests_as}
+use Rattle.vol_copy.proofs.Looking.{rests_as}
 use Rattle.vol_copy.proofs.Starting.{first_under}
 use Rattle.vol_copy.proofs.Turning.{same_files}
 
@@ -158,7 +157,7 @@ module _ {N M : Type 0} {nor_from : NorOf N} {nor : NorOf M} (from : Reader N no
 
         module _ (next : Volume M nor) (cuts_next : CutsUnder (Rests IsReady) mid next) (idle_next : Idles (Rests HasNoWorking) mid next) where
           pub ready_cuts : CutsUnder Starts old next
-          ready_cuts = cuts_then Starts (Rests IsReady) old mid next (λ t has. rests_some IsReady t mid has) first_cuts ready cuts_next
+          ready_cuts = cuts_then Starts (Rests IsReady) old mid next (λ t has. rests_some t mid has) first_cuts ready cuts_next
 
           ready_reads : (t : Task) → Starts t old → t.known ≡ true → IsAllThere t.alike t.source t.first → OnlyReads nor old.nor.now next.nor.now
           ready_reads t has known there = reads_then (first_reads t has known) (idle_next t (no_file t has known there) known)
@@ -176,7 +175,7 @@ module _ {N M : Type 0} {nor_from : NorOf N} {nor : NorOf M} (from : Reader N no
             begun_at = λ t has. (λ known. tells_on reads same (has.tells known), goes t (ready t has))
 
             pub all_cuts : CutsUnder Starts old new
-            all_cuts = cuts_then Starts (With nor_from from_mid (Rests (IsUpTo 0))) old next new (λ t has. rests_some (IsUpTo 0) t next has.1) ready_cuts begun_at cuts_new
+            all_cuts = cuts_then Starts (With nor_from from_mid (Rests (IsUpTo 0))) old next new (λ t has. rests_some t next has.1) ready_cuts begun_at cuts_new
 
             all_reads : (t : Task) → Starts t old → t.known ≡ true → IsAllThere t.alike t.source t.first → OnlyReads nor old.nor.now new.nor.now
             all_reads t has known there =

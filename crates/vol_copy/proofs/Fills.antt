@@ -1,7 +1,6 @@
 -- The working file is opened, written page by page, and closed.
-use Rattle.std.proofs.Common.{◌≡◌, ◌⊎◌, ℕ, ◌+◌, ◌-◌, ◌<◌, ◌≤◌, ◌%◌, List, ◌∷◌, length, Bool, true, false, Option, Some, None, Result, Ok, Err, refl, sym, ◌∙◌, ap, subst, ⊎_elim, inl, inr, cond, arith}
+use Rattle.std.proofs.Common.{◌≡◌, ◌⊎◌, ℕ, ◌+◌, ◌-◌, ◌<◌, List, ◌∷◌, length, Bool, true, false, Option, Some, None, Result, Ok, Err, refl, sym, ◌∙◌, ap, subst, ⊎_elim, inl, inr, cond, arith}
 use Rattle.std.specs.Prelude.{nat_lt, min}
-use Rattle.std.proofs.lemmas.Bool.{cases_Bool}
 use Rattle.nor_core.specs.declared.state.NorState.{Ghosts as NorOf}
 use Rattle.nor_core.proofs.Cuts.{wider}
 use Rattle.geometry.specs.declared.geometry.Geometry.{Geometry}
@@ -29,15 +28,15 @@ use Rattle.copy_model.specs.Copying.{working}
 use Rattle.copy_model.specs.Filling.{with_first}
 use Rattle.copy_model.specs.Answers.{IsPiece}
 use Rattle.copy_model.specs.Tasks.{Task}
-use Rattle.copy_model.specs.Under.{IsTable, IsUnder}
-use Rattle.copy_model.specs.Parts.{IsMissing, IsFilling, IsWhole, IsLacking}
+use Rattle.copy_model.specs.Under.{IsUnder}
+use Rattle.copy_model.specs.Parts.{IsMissing, IsFilling, IsWhole}
 use Rattle.copy_model.proofs.Passing.{next_under, next_here, filling_done}
 use Rattle.copy_model.proofs.Shapes.{opens-first, writes-first}
 use Rattle.copy_model.proofs.Opened.{open_replies, open_begins, open_left, open_lacks, write_cut, write_goes, write_lacks, write_replies, close_done, filling_under}
-use Rattle.vol_copy.specs.Stages.{IsPage, Rests, Works, LacksRoom, CutsUnder, Leads, StopsAs, StopsFrom, OnlyFaults}
+use Rattle.vol_copy.specs.Stages.{IsPage, Rests, Works, LacksRoom, CutsUnder, Leads, OnlyFaults}
 use Rattle.vol_copy.specs.Went.{Went, opened_as, wrote_as, done_as}
 use Rattle.vol_copy.proofs.Composing.{image_table, rest_table}
-use Rattle.vol_copy.proofs.Calling.{goes, any_cuts, closed_cuts}
+use Rattle.vol_copy.proofs.Calling.{goes, any_cuts}
 use Rattle.vol_copy.proofs.Places.{done_stop, done_whole}
 
 -- ---- how an opening went

@@ -1,9 +1,9 @@
 -- The records of a reader can be copied, where none has the working name.
-use Rattle.std.proofs.Common.{◌≡◌, ◌≢◌, ℕ, ◌+◌, ◌<◌, ◌≤◌, List, [], ◌∷◌, length, slice_range, Bool, true, false, not, ◌==◌, Option, Some, None, Ok, refl, sym, ◌∙◌, ap, subst, ⊎_elim, arith, length-take, length-drop}
+use Rattle.std.proofs.Common.{◌≡◌, ℕ, ◌+◌, ◌≤◌, List, [], ◌∷◌, length, slice_range, Bool, true, false, not, ◌==◌, Some, None, Ok, refl, sym, ◌∙◌, ap, subst, ⊎_elim, arith, length-take, length-drop}
 use Rattle.std.specs.Prelude.{find, nat_lt, position}
 use Rattle.std.specs.List.{All, prefix_len, slice_index_or}
 use Rattle.std.proofs.lemmas.Bool.{cases_Bool, ltb-false}
-use Rattle.std.proofs.lemmas.Option.{none-some, same_Some}
+use Rattle.std.proofs.lemmas.Option.{none-some}
 use Rattle.geometry.specs.declared.geometry.Geometry.{Geometry}
 use Rattle.nor_core.specs.declared.state.NorState.{Ghosts as NorOf}
 use Rattle.table_model.specs.Table.{File, same_text, file_named}
@@ -28,7 +28,7 @@ use Rattle.volume.specs.declared.volume.Volume.{Volume}
 use Rattle.copy_model.specs.Copying.{working}
 use Rattle.copy_model.specs.Tasks.{Task}
 use Rattle.copy_model.specs.Under.{IsTable}
-use Rattle.copy_model.specs.Parts.{IsFit, AreFit}
+use Rattle.copy_model.specs.Parts.{AreFit}
 use Rattle.vol_copy.specs.Ends.{alike_of}
 use Rattle.vol_copy.proofs.Composing.{image_table}
 

@@ -1,9 +1,9 @@
 -- What calls that only look leave of a state.
-use Rattle.std.proofs.Common.{◌≡◌, ℕ, ◌+◌, ◌<◌, List, length, Bool, true, false, Option, Some, None, refl, sym, ◌∙◌, ap, arith}
+use Rattle.std.proofs.Common.{◌≡◌, ℕ, ◌+◌, ◌<◌, List, length, true, Option, Some, None, refl, arith}
 use Rattle.std.specs.Prelude.{min, replicate}
 use Rattle.geometry.specs.declared.geometry.Geometry.{Geometry}
 use Rattle.table_model.specs.declared.error.FsErr.{FsErr}
-use Rattle.table_model.specs.Table.{File, Open, State, file_named, file_of}
+use Rattle.table_model.specs.Table.{File, State, file_named, file_of}
 use Rattle.table_model.specs.Descriptors.{open_at, put_at, lowest_closed}
 use Rattle.table_model.specs.Names.{name_refusal}
 use Rattle.table_model.specs.Files.{bytes_at}
@@ -11,7 +11,6 @@ use Rattle.table_model.specs.Calls.{answer_stat, answer_read}
 use Rattle.table_model.specs.Opening.{answer_open}
 use Rattle.table_model.specs.Ask.{Opens, Reads, Stats}
 use Rattle.table_model.specs.Reply.{Tells}
-use Rattle.table_model.specs.Outcome.{Outcome}
 use Rattle.table_model.specs.Flat.{answer}
 use Rattle.call_model.specs.Closed.{with_files}
 use Rattle.call_model.proofs.Closed.{first_closed, first_open, opened_twice}

@@ -1,27 +1,24 @@
 -- A copy stops for want of room.
-use Rattle.std.proofs.Common.{◌≡◌, ◌⊎◌, ℕ, ◌+◌, List, Bool, true, false, Option, Some, None, Result, Ok, Err, refl, sym, ◌∙◌, ap, subst, ⊎_elim, inl, inr}
+use Rattle.std.proofs.Common.{◌≡◌, ℕ, ◌+◌, Result, Ok, Err, refl, sym, ◌∙◌, ap, subst, ⊎_elim, inl, inr}
 use Rattle.nor_core.specs.declared.state.NorState.{Ghosts as NorOf}
-use Rattle.table_model.specs.declared.error.FsErr.TheVariants.{NotFound, DeviceFault}
+use Rattle.table_model.specs.declared.error.FsErr.TheVariants.{DeviceFault}
 use Rattle.table_model.specs.declared.reply.Info.{Info}
-use Rattle.table_model.specs.Table.{File, State}
+use Rattle.table_model.specs.Table.{State}
 use Rattle.table_model.specs.Room.{index_count, data_count}
 use Rattle.table_model.specs.Calls.{info_of}
 use Rattle.table_model.specs.Outcome.{Outcome}
 use Rattle.table_model.specs.Ask.{Removes, Informs}
-use Rattle.table_model.specs.Reply.{Answer, Fine, Counts, Refuses}
-use Rattle.table_model.specs.Flat.{answer}
-use Rattle.call_model.specs.Closed.{with_files}
+use Rattle.table_model.specs.Reply.{Answer, Counts, Refuses}
 use Rattle.volume.specs.declared.volume.Volume.{Volume}
 use Rattle.volume_run.specs.Resting.{IsAtRest}
 use Rattle.copy_model.specs.declared.err.CopyErr.{CopyErr}
 use Rattle.copy_model.specs.declared.err.CopyErr.TheVariants.{Full, ToFault}
 use Rattle.copy_model.specs.Copying.{working}
 use Rattle.copy_model.specs.Tasks.{Task}
-use Rattle.copy_model.specs.Under.{IsTable, IsUnder}
-use Rattle.copy_model.specs.Parts.{IsLacking}
+use Rattle.copy_model.specs.Under.{IsUnder}
 use Rattle.copy_model.proofs.Answering.{informed}
 use Rattle.copy_model.proofs.Stages.{part-under}
-use Rattle.vol_copy.specs.Stages.{LacksRoom, CutsUnder, Leads, StopsAs, StopsFrom, IsShort}
+use Rattle.vol_copy.specs.Stages.{LacksRoom, CutsUnder, Leads, StopsAs, StopsFrom}
 use Rattle.vol_copy.specs.Went.{Went, info_as, removed_as}
 use Rattle.vol_copy.proofs.Calling.{goes, any_cuts}
 use Rattle.vol_copy.proofs.Places.{removed_stop, removed_whole}

@@ -5,6 +5,7 @@ pub mod Marking
 pub mod Lacking
 pub mod Fills
 pub mod Fitting
+pub mod Found
 pub mod Glances
 pub mod Likeness
 pub mod Looking

@@ -1,5 +1,5 @@
 -- The file of the next record's name is a copy of it, or not.
-use Rattle.std.proofs.Common.{◌≡◌, ◌≢◌, ◌⊎◌, ℕ, ◌+◌, ◌-◌, ◌<◌, ◌≤◌, List, ◌++◌, length, take, drop, Bool, true, false, not, ◌==◌, ◌&&◌, ◌||◌, Option, Some, None, refl, sym, ◌∙◌, ap, subst, ⊎_elim, inl, inr, arith, length-take, length-drop}
+use Rattle.std.proofs.Common.{◌≡◌, ◌≢◌, ◌⊎◌, ℕ, ◌+◌, ◌-◌, ◌<◌, ◌≤◌, List, ◌++◌, length, take, drop, Bool, true, false, not, ◌==◌, ◌&&◌, ◌||◌, Option, Some, None, refl, sym, ◌∙◌, ap, ⊎_elim, inl, inr, arith, length-take, length-drop}
 use Rattle.std.specs.Prelude.{min}
 use Rattle.std.proofs.lemmas.Bool.{cases_Bool, eqb-true, eqb-false, eq-eqb, ne_eqb, false≢true}
 use Rattle.std.proofs.lemmas.List.{take_all}
@@ -7,9 +7,9 @@ use Rattle.table_model.specs.declared.reply.Stat.{Stat}
 use Rattle.table_model.specs.Table.{File, Open, same_text, file_named}
 use Rattle.table_model.specs.Names.{name_refusal}
 use Rattle.table_model.specs.Files.{bytes_at, stat_of}
-use Rattle.table_model.specs.Outcome.{Outcome, gives}
-use Rattle.table_model.specs.Ask.{Opens, Reads, Closes}
-use Rattle.table_model.specs.Reply.{Fine, Tells, Gives}
+use Rattle.table_model.specs.Outcome.{gives}
+use Rattle.table_model.specs.Ask.{Opens, Reads}
+use Rattle.table_model.specs.Reply.{Tells, Gives}
 use Rattle.table_model.specs.Flat.{answer}
 use Rattle.image_laws.proofs.Records.{bytes_same, bytes_equal}
 use Rattle.call_model.specs.Closed.{with_files}

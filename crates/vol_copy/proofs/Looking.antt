@@ -1,5 +1,5 @@
 -- Calls that only look at a target, one after the other.
-use Rattle.std.proofs.Common.{◌≡◌, ℕ, List, Bool, true, false, refl, sym, ◌∙◌, ap, subst}
+use Rattle.std.proofs.Common.{◌≡◌, List, true}
 use Rattle.geometry.specs.declared.geometry.Geometry.{Geometry}
 use Rattle.nor_core.specs.declared.state.NorState.{Ghosts as NorOf}
 use Rattle.nor_core.specs.Device.{OnlyReads}
@@ -14,21 +14,15 @@ use Rattle.volume_run.specs.Resting.{IsAtRest}
 use Rattle.copy_model.specs.declared.err.CopyErr.{CopyErr}
 use Rattle.copy_model.specs.Tasks.{Task}
 use Rattle.copy_model.specs.Under.{IsUnder}
-use Rattle.vol_copy.specs.Stages.{CutsUnder, Leads, StopsFrom, With, Rests, Works}
-use Rattle.vol_copy.specs.Seen.{Idles, Looked, LooksUntil}
-use Rattle.vol_copy.proofs.Composing.{RestsSome, cuts_then, cuts_none, cuts_of, tells_on, with_then}
+use Rattle.vol_copy.specs.Stages.{StopsFrom, With, Rests}
+use Rattle.vol_copy.specs.Seen.{Looked, LooksUntil}
+use Rattle.vol_copy.proofs.Composing.{RestsSome, cuts_then, cuts_none, cuts_of, with_then}
 
 module _ {M : Type 0} {nor : NorOf M} where
   -- the image of a target at rest has its table
   pub rest_image : {g : Geometry} {v : Volume M nor} {s : State} → IsAtRest g v s → table_of g (nor.bytes v.nor.now) ≡ s.table
   unfolding settled_at
   rest_image rest = rest.stands.stands.image.table
-
-  pub rests_some : (holds : Task → List File → Type 0) (t : Task) (v : Volume M nor) → Rests holds t v → RestsSome t v
-  rests_some holds t v has = record { state = _; at = has.at }
-
-  pub works_some : (fd flags : ℕ) (holds : _) (t : Task) (v : Volume M nor) → Works fd flags holds t v → RestsSome t v
-  works_some fd flags holds t v has = record { state = _; at = has.at }
 
   -- what holds of a target at rest holds of more
   pub rests_as : (K L : Task → List File → Type 0) (t : Task) (v : Volume M nor) → (t.known ≡ true → (files : List File) → K t files → L t files) → Rests K t v → Rests L t v

@@ -1,5 +1,5 @@
 -- The working file gets the record's meta bytes.
-use Rattle.std.proofs.Common.{◌≡◌, ◌≢◌, ◌⊎◌, ℕ, List, length, Bool, true, false, not, ◌==◌, ◌||◌, Option, Some, None, Result, Ok, Err, refl, sym, ◌∙◌, ap, subst, ⊎_elim, inl, inr}
+use Rattle.std.proofs.Common.{◌≡◌, ℕ, List, length, Bool, true, false, not, ◌==◌, ◌||◌, Result, Ok, Err, refl, sym, ◌∙◌, ap, subst}
 use Rattle.std.specs.Prelude.{OnOk, IfErr}
 use Rattle.std.specs.List.{All}
 use Rattle.std.proofs.lemmas.Bool.{eqb-true}
@@ -8,13 +8,12 @@ use Rattle.std.proofs.lemmas.List.Sums.{AllPass-from_list_all}
 use Rattle.image_model.specs.Tidy.{is_erased}
 use Rattle.geometry.specs.declared.geometry.Geometry.{Geometry}
 use Rattle.nor_core.specs.declared.state.NorState.{Ghosts as NorOf}
-use Rattle.table_model.specs.declared.error.FsErr.TheVariants.{DeviceFault}
 use Rattle.table_model.specs.declared.reply.Stat.{Stat}
 use Rattle.table_model.specs.Table.{File, State, put_file}
 use Rattle.table_model.specs.Room.{has_room}
 use Rattle.table_model.specs.Outcome.{Outcome}
 use Rattle.table_model.specs.Ask.{SetsMeta}
-use Rattle.table_model.specs.Reply.{Answer, Fine, Refuses}
+use Rattle.table_model.specs.Reply.{Fine}
 use Rattle.table_model.specs.Flat.{answer}
 use Rattle.table_model.specs.Window.{settled_at}
 use Rattle.image_model.specs.Tables.{table_of}
@@ -33,7 +32,7 @@ use Rattle.copy_model.proofs.Shapes.{sets_meta-closed}
 use Rattle.copy_model.proofs.Passing.{next_fit, begun_under, unmarked, blank_marked, marked_under}
 use Rattle.vol_copy.specs.Stages.{Rests, CutsUnder, Leads, OnlyFaults}
 use Rattle.vol_copy.specs.Went.{Went, done_as}
-use Rattle.vol_copy.proofs.Composing.{RestsSome, rest_table, cuts_none, cuts_of}
+use Rattle.vol_copy.proofs.Composing.{rest_table, cuts_none, cuts_of}
 use Rattle.vol_copy.proofs.Calling.{goes, closed_cuts, closed_leads}
 use Rattle.vol_copy.proofs.Places.{done_stop, done_whole, on_ok, if_err}
 

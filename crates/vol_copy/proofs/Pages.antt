@@ -9,8 +9,7 @@ use Rattle.nor_core.specs.Device.{OnlyReads}
 use Rattle.geometry.specs.declared.geometry.Geometry.{Geometry}
 use Rattle.geometry.specs.Numbers.{body}
 use Rattle.table_model.specs.declared.reply.Stat.{Stat}
-use Rattle.table_model.specs.Table.{File, Open, State, file_of}
-use Rattle.table_model.specs.Files.{stat_of, bytes_at}
+use Rattle.table_model.specs.Table.{File, Open, file_of}
 use Rattle.table_model.specs.Room.{index_pages}
 use Rattle.table_model.specs.Window.{settled_at}
 use Rattle.table_model.specs.Ask.{Opens, Writes, Closes}
@@ -29,12 +28,12 @@ use Rattle.copy_model.specs.Parts.{IsMissing, IsFilling, IsWhole}
 use Rattle.copy_model.proofs.Passing.{next_here}
 use Rattle.copy_model.proofs.Opened.{filling_under}
 use Rattle.vol_copy.specs.Ends.{TellsFiles}
-use Rattle.vol_copy.specs.Stages.{IsPage, Rests, Works, LacksRoom, LacksPage, PageWent, CutsUnder, Leads, StopsAs, StopsFrom, OnlyFaults, With, page_end, index_more}
+use Rattle.vol_copy.specs.Stages.{IsPage, Rests, Works, LacksRoom, LacksPage, PageWent, CutsUnder, Leads, StopsAs, StopsFrom, With, page_end, index_more}
 use Rattle.vol_copy.specs.Went.{Went, done_as, opened_as, wrote_as}
-use Rattle.vol_copy.proofs.Composing.{RestsSome, rest_table, cuts_then, cuts_none, cuts_of, cuts_with, with_then}
+use Rattle.vol_copy.proofs.Composing.{works_some, lacks_some, rest_table, cuts_then, cuts_none, cuts_of, cuts_with, with_then}
 use Rattle.vol_copy.proofs.Places.{on_ok, if_err}
 use Rattle.vol_copy.proofs.Fills.{WithBytes, write_cuts, write_leads, write_short, write_stops, open_cuts, open_leads, open_short, open_stops, close_cuts, close_leads, close_stops}
-use Rattle.vol_copy.proofs.Chains.{rests_some, works_some, lacks_some, faults_stop, stops_then}
+use Rattle.vol_copy.proofs.Chains.{faults_stop, stops_then}
 
 -- the record that is filled in, by the id that is told
 filled_here : (stat : Stat) (at : ℕ) (t : Task) (d : Open) (files : List File) (is : IsFilling stat at t d files) → file_of stat.id t.source ≡ Some is.is.next.f

@@ -1,28 +1,25 @@
 -- A record that is whole under the working name gets its place.
-use Rattle.std.proofs.Common.{◌≡◌, ◌≢◌, ◌⊎◌, ℕ, List, [], ◌++◌, length, Bool, true, false, Option, Some, None, Result, Ok, Err, refl, sym, ◌∙◌, ap, subst, ⊎_elim, inl, inr}
-use Rattle.std.specs.Prelude.{IsOk, OnOk, IfErr}
+use Rattle.std.proofs.Common.{◌≡◌, ◌⊎◌, ℕ, List, true, Option, Some, None, Result, Ok, Err, refl, sym, ◌∙◌, ap, subst, ⊎_elim, inl, inr}
+use Rattle.std.specs.Prelude.{OnOk, IfErr}
 use Rattle.geometry.specs.declared.geometry.Geometry.{Geometry}
 use Rattle.nor_core.specs.declared.state.NorState.{Ghosts as NorOf}
-use Rattle.table_model.specs.declared.error.FsErr.{FsErr}
 use Rattle.table_model.specs.declared.error.FsErr.TheVariants.{NotFound, DeviceFault}
 use Rattle.table_model.specs.declared.reply.Stat.{Stat}
 use Rattle.table_model.specs.Table.{File, State, file_named, put_file}
 use Rattle.table_model.specs.Names.{name_refusal}
-use Rattle.table_model.specs.Files.{stat_of}
 use Rattle.table_model.specs.Outcome.{Outcome}
-use Rattle.table_model.specs.Ask.{Removes, Renames, SetsMeta}
+use Rattle.table_model.specs.Ask.{Removes, Renames}
 use Rattle.table_model.specs.Reply.{Answer, Fine, Refuses}
 use Rattle.table_model.specs.Flat.{answer}
 use Rattle.call_model.specs.Closed.{with_files}
 use Rattle.volume.specs.declared.volume.Volume.{Volume}
-use Rattle.volume_run.specs.Resting.{Rested}
 use Rattle.copy_model.specs.declared.err.CopyErr.{CopyErr}
 use Rattle.copy_model.specs.declared.err.CopyErr.TheVariants.{ToFault}
 use Rattle.copy_model.specs.Copying.{working, marked, cleared, placed, without_name}
 use Rattle.copy_model.specs.Answers.{or_full}
 use Rattle.copy_model.specs.Tasks.{Task}
 use Rattle.copy_model.specs.Under.{IsTable, IsUnder}
-use Rattle.copy_model.specs.Parts.{IsAmid, IsMissing, IsWhole, IsMarked, IsCleared, IsPassed}
+use Rattle.copy_model.specs.Parts.{IsAmid, IsMarked, IsCleared, IsPassed}
 use Rattle.copy_model.proofs.Answering.{clears, removes-none, removes-file, places}
 use Rattle.copy_model.proofs.Rooming.{room-behind, last-has_room}
 use Rattle.copy_model.proofs.Shapes.{removes-closed, renames-closed}
@@ -30,7 +27,6 @@ use Rattle.copy_model.proofs.Stages.{under-none}
 use Rattle.copy_model.proofs.Passing.{next_fit, marked_under, cleared_none, cleared_under, placed_passes}
 use Rattle.vol_copy.specs.Stages.{Rests, CutsUnder, Leads, OnlyFaults}
 use Rattle.vol_copy.specs.Went.{Went, done_as, removed_as}
-use Rattle.vol_copy.proofs.Composing.{rest_table}
 use Rattle.vol_copy.proofs.Calling.{goes, closed_cuts, closed_leads}
 
 -- what is amid a copy may be left of it

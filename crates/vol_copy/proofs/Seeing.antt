@@ -1,5 +1,5 @@
 -- The file of the next record's name is compared with it, call by call.
-use Rattle.std.proofs.Common.{◌≡◌, ◌≢◌, ◌⊎◌, ℕ, ◌+◌, ◌<◌, ◌≤◌, List, length, Bool, true, false, Option, Some, None, Result, Ok, Err, refl, sym, ◌∙◌, ap, subst, inl, inr, arith}
+use Rattle.std.proofs.Common.{◌≡◌, ℕ, ◌+◌, ◌≤◌, List, length, Bool, true, false, Option, Some, None, Result, Ok, Err, refl, sym, ◌∙◌, ap, subst, inl, arith}
 use Rattle.std.specs.Prelude.{nat_lt}
 use Rattle.std.specs.Option.{option_map}
 use Rattle.std.proofs.lemmas.Bool.{le-ltb, false≢true}
@@ -35,12 +35,12 @@ use Rattle.vol_copy.specs.Ends.{TellsFiles}
 use Rattle.vol_copy.specs.Stages.{Rests, Works, CutsUnder, Leads, StopsAs, OnlyFaults, With}
 use Rattle.vol_copy.specs.Went.{Went, done_as, stat_as, opened_as, read_stop, ReadsAs}
 use Rattle.vol_copy.specs.Seen.{IsSeen, IsLike, IsLooking, IsLooked, IsRead, Idles, Looked, LooksUntil}
-use Rattle.vol_copy.proofs.Composing.{rest_table}
+use Rattle.vol_copy.proofs.Composing.{works_some, rest_table}
 use Rattle.vol_copy.proofs.Calling.{goes, any_cuts}
 use Rattle.vol_copy.proofs.Fills.{opened_told, opened_stop, opened_none}
 use Rattle.vol_copy.proofs.Glances.{stats-state, looks-table, looks-first, reads-first}
 use Rattle.vol_copy.proofs.Likeness.{like_opens, looks_first, reads_it, read_long, looks_on, looks_other}
-use Rattle.vol_copy.proofs.Looking.{rest_image, looked_of, until_of, until_none, works_some}
+use Rattle.vol_copy.proofs.Looking.{rest_image, looked_of, until_of, until_none}
 use Rattle.vol_copy.proofs.Places.{done_whole, done_stop}
 
 -- the reply of a fault stops a copy for the target's
@@ -240,7 +240,7 @@ module _ {M : Type 0} {nor : NorOf M} (stat : Stat) (fd at : ℕ) (t : Task) (v 
 -- the same, of bytes as many as the record's
 module _ {N M : Type 0} {nor_from : NorOf N} {nor : NorOf M} (stat : Stat) (at fd : ℕ) (ours was into : List ℕ) (n : ℕ) (as_many : length was ≡ n) (long : length into ≡ length was) (within : at + n ≤ stat.size) (from : Reader N nor_from) (old new : Volume M nor) where
   pub part_unread : (why : CopyErr) → ((source : List File) (f : File) → TellsFiles nor_from from source → file_of stat.id source ≡ Some f → at + n ≤ length f.bytes → why ≡ FromFault) → LooksUntil (With nor_from from (Works fd 8 (IsLooking stat at))) old old why
-  part_unread why fails = until_none (With nor_from from (Works fd 8 (IsLooking stat at))) old why (λ t has. works_some fd 8 (IsLooking stat at) t old has.1) (λ t has known. looking_under stat fd at t old has.1 known)
+  part_unread why fails = until_none (With nor_from from (Works fd 8 (IsLooking stat at))) old why (λ t has. works_some t old has.1) (λ t has known. looking_under stat fd at t old has.1 known)
       (λ t has known.
       let next = (has.1.known known).like.next in
       let here : file_of stat.id t.source ≡ Some next.f = ap (λ (s : Stat). file_of s.id t.source) next.stat_is ∙ next_here stat t has.1.files next in

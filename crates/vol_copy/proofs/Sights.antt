@@ -1,9 +1,8 @@
 -- What the functions that compare a record with the file of its name do, call by call.
-use Rattle.std.proofs.Common.{◌≡◌, ℕ, ◌+◌, ◌<◌, ◌≤◌, List, length, Bool, true, false, Option, Some, None, Result, Ok, Err, refl, sym, ◌∙◌, ap, subst, arith}
+use Rattle.std.proofs.Common.{◌≡◌, ℕ, ◌+◌, List, length, Bool, true, false, Option, Some, None, Result, Ok, Err, sym, ◌∙◌, ap, subst}
 use Rattle.std.specs.Option.{option_map}
 use Rattle.std.specs.Prelude.{IfOk, IfErr}
 use Rattle.std.specs.List.{All}
-use Rattle.std.proofs.lemmas.Option.{none-some, same_Some}
 use Rattle.geometry.specs.declared.geometry.Geometry.{Geometry}
 use Rattle.nor_core.specs.declared.state.NorState.{Ghosts as NorOf}
 use Rattle.nor_core.specs.Device.{OnlyReads}
@@ -22,33 +21,18 @@ use Rattle.volume_run.specs.Resting.{IsAtRest}
 use Rattle.copy_model.specs.declared.err.CopyErr.{CopyErr}
 use Rattle.copy_model.specs.declared.err.CopyErr.TheVariants.{Refused}
 use Rattle.copy_model.specs.Tasks.{Task}
-use Rattle.copy_model.specs.Under.{IsTable, IsUnder}
 use Rattle.copy_model.specs.Parts.{IsNext}
 use Rattle.copy_model.proofs.Names.{found-all}
 use Rattle.copy_model.proofs.Passing.{next_under}
-use Rattle.vol_copy.specs.Stages.{Rests, Works, CutsUnder, Leads, With}
+use Rattle.vol_copy.specs.Stages.{Rests, Works, With}
 use Rattle.vol_copy.specs.Went.{Went, done_as, stat_as, opened_as}
 use Rattle.vol_copy.specs.Seen.{may_be, IsSeen, IsLike, IsLooking, IsLooked, IsRead, Looked, LooksUntil}
-use Rattle.vol_copy.proofs.Composing.{cuts_none}
+use Rattle.vol_copy.proofs.Composing.{rests_some, works_some, cuts_none}
+use Rattle.vol_copy.proofs.Found.{found_some, found_none}
 use Rattle.vol_copy.proofs.Fitting.{IsFine, fine_files}
 use Rattle.vol_copy.proofs.Likeness.{next_fine, seen_none, seen_other, is_like, looks_all}
-use Rattle.vol_copy.proofs.Looking.{rest_image, rests_some, works_some, looked_then, until_then, looked_as, looked_with, until_with, with_looked, with_until}
-use Rattle.vol_copy.proofs.Seeing.{fault_stops, Told, stat_reads, stat_cuts, stat_leads, stat_stops, see_looked, see_until, see_missing, quit_looked, quit_until, looking_under}
-
--- a file that was told
-found_file : (name : List ℕ) (files : List File) (there : Stat) → Some there ≡ option_map stat_of (file_named name files) → (x : File) × (file_named name files ≡ Some x) × (there ≡ stat_of x)
-found_file name files there told = go (file_named name files) refl
-  where
-    go : (o : Option File) → file_named name files ≡ o → (x : File) × (file_named name files ≡ Some x) × (there ≡ stat_of x)
-    go None is = absurd (none-some there (sym (told ∙ ap (option_map stat_of) is)))
-    go (Some x) is = (x, is, same_Some there (stat_of x) (told ∙ ap (option_map stat_of) is))
-
-missing_file : (name : List ℕ) (files : List File) → None ≡ option_map stat_of (file_named name files) → file_named name files ≡ None
-missing_file name files told = go (file_named name files) refl
-  where
-    go : (o : Option File) → file_named name files ≡ o → file_named name files ≡ None
-    go None is = is
-    go (Some x) is = absurd (none-some (stat_of x) (told ∙ ap (option_map stat_of) is))
+use Rattle.vol_copy.proofs.Looking.{rest_image, looked_then, until_then, looked_as, looked_with, until_with, with_looked, with_until}
+use Rattle.vol_copy.proofs.Seeing.{fault_stops, stat_reads, stat_cuts, stat_leads, stat_stops, see_looked, see_until, see_missing, quit_looked, quit_until, looking_under}
 
 -- a file of an image has as many meta bytes as the volume
 meta_long : (g : Geometry) (a : List ℕ) (name : List ℕ) (files : List File) (x : File) → IsImage g a → table_of g a ≡ files → file_named name files ≡ Some x → length x.meta ≡ g.meta
@@ -88,7 +72,7 @@ module _ {N M : Type 0} {nor_from : NorOf N} {nor : NorOf M} (stat : Stat) (name
 
   pub there_none : r ≡ Ok None → Looked Next (Rests (IsSeen stat false)) old mid
   there_none ok = looked_as Next (Rests (λ t files. IsNext stat t files × (None ≡ option_map stat_of (file_named stat.name files)))) (Rests (IsSeen stat false)) old mid
-      (λ t has w. rests_at (λ t files. IsNext stat t files × (None ≡ option_map stat_of (file_named stat.name files))) (IsSeen stat false) t mid (λ files at known k. seen_none stat t files k.0 (missing_file stat.name files k.1)) w) (told None ok)
+      (λ t has w. rests_at (λ t files. IsNext stat t files × (None ≡ option_map stat_of (file_named stat.name files))) (IsSeen stat false) t mid (λ files at known k. seen_none stat t files k.0 (found_none (file_named stat.name files) k.1)) w) (told None ok)
 
   module _ (there : Stat) (ok : r ≡ Ok (Some there)) (image : nor.tells mid.nor.now → IsImage mid.geometry (nor.bytes mid.nor.now)) where
     meta_at : (t : Task) (files : List File) (x : File) → IsAtRest t.g mid (with_files t.slots files) → file_named stat.name files ≡ Some x → length x.meta ≡ t.g.meta
@@ -97,7 +81,7 @@ module _ {N M : Type 0} {nor_from : NorOf N} {nor : NorOf M} (stat : Stat) (name
     pub there_other : may_be stat there ≡ false → Looked Next (Rests (IsSeen stat false)) old mid
     there_other other = looked_as Next (Rests (λ t files. IsNext stat t files × (Some there ≡ option_map stat_of (file_named stat.name files)))) (Rests (IsSeen stat false)) old mid
         (λ t has w. rests_at (λ t files. IsNext stat t files × (Some there ≡ option_map stat_of (file_named stat.name files))) (IsSeen stat false) t mid (λ files at known k.
-        let x = found_file stat.name files there k.1 in
+        let x = found_some (file_named stat.name files) there k.1 in
         seen_other stat t files k.0 x.0 x.1 (meta_at t files x.0 at x.1) (ap (may_be stat) (sym x.2) ∙ other)) w) (told (Some there) ok)
 
     there_like : may_be stat there ≡ true → Looked Next (With nor_from from (Rests (IsLike stat))) old mid
@@ -105,7 +89,7 @@ module _ {N M : Type 0} {nor_from : NorOf N} {nor : NorOf M} (stat : Stat) (name
         (λ t has w. (
           has.0,
           rests_at (λ t files. IsNext stat t files × (Some there ≡ option_map stat_of (file_named stat.name files))) (IsLike stat) t mid (λ files at known k.
-              let x = found_file stat.name files there k.1 in
+              let x = found_some (file_named stat.name files) there k.1 in
               is_like stat t files k.0 x.0 x.1 (meta_at t files x.0 at x.1) (ap (may_be stat) (sym x.2) ∙ may)) w,
         )) (told (Some there) ok)
 
@@ -114,7 +98,7 @@ module _ {N M : Type 0} {nor_from : NorOf N} {nor : NorOf M} (stat : Stat) (name
       there_then second = go result second
         where
           go : (r : Result Bool CopyErr) → IfOk r (λ same. Looked (With nor_from from (Rests (IsLike stat))) (Rests (IsSeen stat same)) mid new) → IfOk r (λ same. Looked Next (Rests (IsSeen stat same)) old new)
-          go (Ok same) looked = looked_then Next (With nor_from from (Rests (IsLike stat))) (Rests (IsSeen stat same)) old mid new (λ t has. rests_some (IsLike stat) t mid has.1) (there_like may) looked
+          go (Ok same) looked = looked_then Next (With nor_from from (Rests (IsLike stat))) (Rests (IsSeen stat same)) old mid new (λ t has. rests_some t mid has.1) (there_like may) looked
           go (Err why) looked = looked
 
       pub there_until : IfErr result (LooksUntil (With nor_from from (Rests (IsLike stat))) mid new) → IfErr result (LooksUntil Next old new)
@@ -122,7 +106,7 @@ module _ {N M : Type 0} {nor_from : NorOf N} {nor : NorOf M} (stat : Stat) (name
         where
           go : (r : Result Bool CopyErr) → IfErr r (LooksUntil (With nor_from from (Rests (IsLike stat))) mid new) → IfErr r (LooksUntil Next old new)
           go (Ok same) until = until
-          go (Err why) until = until_then Next (With nor_from from (Rests (IsLike stat))) old mid new why (λ t has. rests_some (IsLike stat) t mid has.1) (there_like may) until
+          go (Err why) until = until_then Next (With nor_from from (Rests (IsLike stat))) old mid new why (λ t has. rests_some t mid has.1) (there_like may) until
 
 -- ---- whether it has the bytes
 
@@ -146,17 +130,17 @@ module _ {N M : Type 0} {nor_from : NorOf N} {nor : NorOf M} (stat : Stat) (name
         looked_as Like (Works fd 8 (IsLooking stat 0)) (With nor_from from (Works fd 8 (IsLooking stat 0))) old mid (λ t has w. (has.0, w)) (with_looked (Rests (IsLike stat)) from (Works fd 8 (IsLooking stat 0)) old mid looked)
 
     pub bytes_unread : (next : Volume M nor) (why : CopyErr) → LooksUntil (With nor_from from (Works fd 8 (IsLooking stat 0))) mid next why → LooksUntil Like old next why
-    bytes_unread next why until = until_then Like (With nor_from from (Works fd 8 (IsLooking stat 0))) old mid next why (λ t has. works_some fd 8 (IsLooking stat 0) t mid has.1) opened until
+    bytes_unread next why until = until_then Like (With nor_from from (Works fd 8 (IsLooking stat 0))) old mid next why (λ t has. works_some t mid has.1) opened until
 
     module _ (same : Bool) (next : Volume M nor) (second : Looked (With nor_from from (Works fd 8 (IsLooking stat 0))) (Works fd 8 (IsLooked stat same)) mid next) (new : Volume M nor) (r3 : Result (Unit {0}) CopyErr) (third : Went done_as (Closes fd) next new r3) where
       compared : Looked Like (Works fd 8 (IsLooked stat same)) old next
-      compared = looked_then Like (With nor_from from (Works fd 8 (IsLooking stat 0))) (Works fd 8 (IsLooked stat same)) old mid next (λ t has. works_some fd 8 (IsLooking stat 0) t mid has.1) opened second
+      compared = looked_then Like (With nor_from from (Works fd 8 (IsLooking stat 0))) (Works fd 8 (IsLooked stat same)) old mid next (λ t has. works_some t mid has.1) opened second
 
       pub bytes_unclosed : (why : CopyErr) → r3 ≡ Err why → LooksUntil Like old new why
-      bytes_unclosed why is = until_then Like (Works fd 8 (IsLooked stat same)) old next new why (λ t has. works_some fd 8 (IsLooked stat same) t next has) compared (quit_until stat same fd next new r3 third why is)
+      bytes_unclosed why is = until_then Like (Works fd 8 (IsLooked stat same)) old next new why (λ t has. works_some t next has) compared (quit_until stat same fd next new r3 third why is)
 
       pub bytes_done : r3 ≡ Ok tt → Looked Like (Rests (IsSeen stat same)) old new
-      bytes_done done = looked_then Like (Works fd 8 (IsLooked stat same)) (Rests (IsSeen stat same)) old next new (λ t has. works_some fd 8 (IsLooked stat same) t next has) compared (quit_looked stat same fd next new r3 third done)
+      bytes_done done = looked_then Like (Works fd 8 (IsLooked stat same)) (Rests (IsSeen stat same)) old next new (λ t has. works_some t next has) compared (quit_looked stat same fd next new r3 third done)
 
 -- ---- piece by piece
 
@@ -166,7 +150,7 @@ module _ {N M : Type 0} {nor_from : NorOf N} {nor : NorOf M} (stat : Stat) (fd :
 
   pub pieces_begin : Looked Opened (Works fd 8 (IsLooking stat 0)) old old
   pieces_begin = record {
-    cuts = cuts_none Opened old (λ t has. works_some fd 8 (IsLooking stat 0) t old has.1) (λ t has known. looking_under stat fd 0 t old has.1 known);
+    cuts = cuts_none Opened old (λ t has. works_some t old has.1) (λ t has known. looking_under stat fd 0 t old has.1 known);
     looks = λ t has known. reads_none old.nor.now;
     leads = λ t has. has.1;
   }
@@ -178,10 +162,10 @@ module _ {N M : Type 0} {nor_from : NorOf N} {nor : NorOf M} (stat : Stat) (fd :
 
     module _ (from_mid : Reader N nor_from) (reads : OnlyReads nor_from from.nor.now from_mid.nor.now) (same_from : IsSameReader from from_mid) (new : Volume M nor) where
       pub pieces_fail : (why : CopyErr) → LooksUntil (With nor_from from_mid (Works fd 8 (IsLooking stat at))) mid new why → LooksUntil Opened old new why
-      pieces_fail why until = until_with (Works fd 8 (IsLooking stat 0)) (Works fd 8 (IsLooking stat at)) from from_mid reads same_from old mid new why (λ t has. works_some fd 8 (IsLooking stat at) t mid has) so_far until
+      pieces_fail why until = until_with (Works fd 8 (IsLooking stat 0)) (Works fd 8 (IsLooking stat at)) from from_mid reads same_from old mid new why (λ t has. works_some t mid has) so_far until
 
       more : (n : ℕ) (same : Bool) → Looked (With nor_from from_mid (Works fd 8 (IsLooking stat at))) (Works fd 8 (IsRead stat (at + n) same)) mid new → Looked Opened (Works fd 8 (IsRead stat (at + n) same)) old new
-      more n same piece = looked_with (Works fd 8 (IsLooking stat 0)) (Works fd 8 (IsLooking stat at)) from from_mid reads same_from (Works fd 8 (IsRead stat (at + n) same)) old mid new (λ t has. works_some fd 8 (IsLooking stat at) t mid has) so_far piece
+      more n same piece = looked_with (Works fd 8 (IsLooking stat 0)) (Works fd 8 (IsLooking stat at)) from from_mid reads same_from (Works fd 8 (IsRead stat (at + n) same)) old mid new (λ t has. works_some t mid has) so_far piece
 
       pub pieces_more : (n : ℕ) (same : Bool) → same ≡ true → Looked (With nor_from from_mid (Works fd 8 (IsLooking stat at))) (Works fd 8 (IsRead stat (at + n) same)) mid new → Looked Opened (Works fd 8 (IsLooking stat (at + n))) old new
       pieces_more n same is piece = looked_as Opened (Works fd 8 (IsRead stat (at + n) true)) (Works fd 8 (IsLooking stat (at + n))) old new

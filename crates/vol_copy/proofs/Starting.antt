@@ -1,20 +1,19 @@
 -- What stands before the first record is copied.
-use Rattle.std.proofs.Common.{◌≡◌, ◌⊎◌, ℕ, List, Bool, true, false, Option, Some, None, Result, Ok, Err, refl, sym, ◌∙◌, ap, subst, inl, inr}
+use Rattle.std.proofs.Common.{◌≡◌, List, Bool, true, false, Option, Some, None, Result, Ok, Err, refl, sym, ◌∙◌, ap, subst, inl, inr}
 use Rattle.std.specs.Option.{option_map}
 use Rattle.std.proofs.lemmas.Option.{none-some}
 use Rattle.geometry.specs.declared.geometry.Geometry.{Geometry}
 use Rattle.nor_core.specs.declared.state.NorState.{Ghosts as NorOf}
-use Rattle.table_model.specs.declared.error.FsErr.TheVariants.{NotFound, DeviceFault}
+use Rattle.table_model.specs.declared.error.FsErr.TheVariants.{DeviceFault}
 use Rattle.table_model.specs.declared.reply.Stat.{Stat}
 use Rattle.table_model.specs.declared.reply.Info.{Info}
 use Rattle.table_model.specs.Table.{File, State, file_named}
 use Rattle.table_model.specs.Room.{has_room}
-use Rattle.table_model.specs.Names.{name_refusal}
 use Rattle.table_model.specs.Calls.{info_of}
 use Rattle.table_model.specs.Files.{stat_of}
 use Rattle.table_model.specs.Outcome.{Outcome}
 use Rattle.table_model.specs.Ask.{Informs, Removes, Stats}
-use Rattle.table_model.specs.Reply.{Answer, Fine, Counts, Refuses}
+use Rattle.table_model.specs.Reply.{Counts, Refuses}
 use Rattle.table_model.specs.Flat.{answer}
 use Rattle.call_model.specs.Closed.{with_files}
 use Rattle.volume.specs.declared.volume.Volume.{Volume}
@@ -22,23 +21,23 @@ use Rattle.volume_run.specs.Resting.{IsAtRest}
 use Rattle.copy_model.specs.declared.err.CopyErr.{CopyErr}
 use Rattle.copy_model.specs.declared.err.CopyErr.TheVariants.{Full, ToFault}
 use Rattle.copy_model.specs.Copying.{working, without_name, without_found}
-use Rattle.copy_model.specs.Tasks.{Task, begins_with}
+use Rattle.copy_model.specs.Tasks.{Task}
 use Rattle.copy_model.specs.Under.{IsTable, MayHave, IsUnder}
 use Rattle.copy_model.specs.Parts.{IsUpTo}
 use Rattle.copy_model.proofs.Answering.{informed, clears, fine_working}
 use Rattle.copy_model.proofs.Passing.{begins}
 use Rattle.copy_model.proofs.Shapes.{removes-closed}
 use Rattle.copy_model.proofs.Staging.{starts-copy}
-use Rattle.vol_copy.specs.Stages.{Rests, CutsUnder, Leads, StopsAs, OnlyFaults}
+use Rattle.vol_copy.specs.Stages.{Rests, CutsUnder, Leads, OnlyFaults}
 use Rattle.vol_copy.specs.Seen.{Idles}
 use Rattle.vol_copy.specs.Turns.{room_by, IsFirst, HasFirstRoom, IsReady, HasNoWorking, StopsFirst}
 use Rattle.vol_copy.specs.Went.{Went, info_as, stat_as, removed_as}
-use Rattle.vol_copy.proofs.Composing.{rest_table, cuts_then}
+use Rattle.vol_copy.proofs.Composing.{rests_some, rest_table, cuts_then}
 use Rattle.vol_copy.proofs.Calling.{goes, closed_cuts, closed_leads}
 use Rattle.vol_copy.proofs.Lacking.{info_told, info_stop}
 use Rattle.vol_copy.proofs.Places.{removed_stop, removed_whole, removal_answers}
-use Rattle.vol_copy.proofs.Looking.{rests_some}
-use Rattle.vol_copy.proofs.Seeing.{look_reads, look_cuts, Told, stat_cuts, stat_leads}
+use Rattle.vol_copy.proofs.Found.{found_none}
+use Rattle.vol_copy.proofs.Seeing.{look_reads, look_cuts, stat_cuts, stat_leads}
 
 -- what stands at first may be left of a copy
 same_under : (alike : Bool) (o first under : Option File) → MayHave alike o first first under
@@ -104,10 +103,6 @@ without-none : (files : List File) → file_named working files ≡ None → fil
 unfolding without_name
 without-none files none = sym (ap (λ (o : Option File). without_found o files) none)
 
-found_none : (o : Option File) → None ≡ option_map stat_of o → o ≡ None
-found_none None is = refl
-found_none (Some f) is = absurd (none-some (stat_of f) is)
-
 ready_starts : (t : Task) (files more : List File) → IsReady t files → IsTable files → more ≡ without_name working files → IsUpTo 0 t more
 ready_starts t files more ready table is =
     let first : files ≡ t.first = ready.first.first in
@@ -166,7 +161,7 @@ module _ {M : Type 0} {nor : NorOf M} (stat : Stat) (old mid new : Volume M nor)
   there_leads = stat_leads IsReady working (λ t files ready. fine_working) old mid found looked (Some stat) there
 
   pub starts_cuts_then : CutsUnder (Rests IsReady) old new
-  starts_cuts_then = cuts_then (Rests IsReady) (Rests (IsThere stat mid new result went)) old mid new (λ t has. rests_some (IsThere stat mid new result went) t mid has)
+  starts_cuts_then = cuts_then (Rests IsReady) (Rests (IsThere stat mid new result went)) old mid new (λ t has. rests_some t mid has)
       (starts_cuts old mid found looked) there_leads (remove_cuts stat mid new result went)
 
   pub starts_leads : result ≡ Ok tt → Leads (Rests IsReady) (Rests (IsUpTo 0)) old new

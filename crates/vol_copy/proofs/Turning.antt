@@ -1,17 +1,15 @@
 -- One record after the other.
-use Rattle.std.proofs.Common.{◌≡◌, ℕ, ◌+◌, ◌<◌, ◌≤◌, List, [], length, Bool, true, false, Option, Some, None, Result, Ok, Err, cond, refl, sym, ◌∙◌, ap, subst, arith}
+use Rattle.std.proofs.Common.{◌≡◌, ℕ, ◌+◌, List, length, Bool, true, false, Option, Some, None, cond, sym, ◌∙◌, ap, subst}
 use Rattle.std.specs.Option.{option_map}
 use Rattle.std.proofs.lemmas.Bool.{false≢true}
-use Rattle.std.proofs.lemmas.Option.{none-some, same_Some}
 use Rattle.geometry.specs.declared.geometry.Geometry.{Geometry}
 use Rattle.nor_core.specs.declared.state.NorState.{Ghosts as NorOf}
 use Rattle.nor_core.specs.Device.{OnlyReads}
 use Rattle.nor_core.proofs.Cuts.{reads_then, reads_none}
 use Rattle.table_model.specs.declared.reply.Stat.{Stat}
-use Rattle.table_model.specs.Table.{File, State, file_above, file_named, file_of}
+use Rattle.table_model.specs.Table.{File, State, file_above, file_named}
 use Rattle.table_model.specs.Files.{stat_of}
 use Rattle.image_model.specs.Tables.{table_of}
-use Rattle.call_model.specs.Closed.{with_files}
 use Rattle.vol_mount.specs.declared.reader.Reader.{Reader}
 use Rattle.vol_mount.specs.Readers.{IsSameReader}
 use Rattle.volume.specs.declared.volume.Volume.{Volume}
@@ -21,8 +19,8 @@ use Rattle.copy_model.specs.declared.err.CopyErr.{CopyErr}
 use Rattle.copy_model.specs.declared.err.CopyErr.TheVariants.{FromFault}
 use Rattle.copy_model.specs.Copying.{kept_count}
 use Rattle.copy_model.specs.Tasks.{Task}
-use Rattle.copy_model.specs.Under.{IsTable, IsUnder, IsAllThere}
-use Rattle.copy_model.specs.Parts.{IsUpTo, IsAmid, IsCounted, IsNext, IsMissing, IsPassed}
+use Rattle.copy_model.specs.Under.{IsUnder, IsAllThere}
+use Rattle.copy_model.specs.Parts.{IsUpTo, IsCounted, IsNext, IsMissing, IsPassed}
 use Rattle.copy_model.proofs.Names.{id-named}
 use Rattle.copy_model.proofs.Passing.{next_here, kept_passes, passed_up, passed_counts, counts_none, all_passed}
 use Rattle.copy_model.proofs.Walking.{none_next}
@@ -31,8 +29,9 @@ use Rattle.vol_copy.specs.Stages.{Rests, With, CutsUnder, Leads, StopsAs, StopsF
 use Rattle.vol_copy.specs.Seen.{IsSeen, Idles, Looked, LooksUntil}
 use Rattle.vol_copy.specs.Turns.{IsAllUpTo, IsTurned, IsLast, HasTurned, IsThrough}
 use Rattle.vol_copy.specs.declared.copying.Turn.{Turn}
-use Rattle.vol_copy.proofs.Composing.{rest_table, RestsSome, cuts_then, cuts_none, cuts_of, cuts_with, tells_on}
-use Rattle.vol_copy.proofs.Looking.{rest_image, rests_some, rests_as}
+use Rattle.vol_copy.proofs.Composing.{rests_some, rest_table, cuts_then, cuts_none, cuts_of, tells_on}
+use Rattle.vol_copy.proofs.Found.{found_some, found_none}
+use Rattle.vol_copy.proofs.Looking.{rest_image, rests_as}
 use Rattle.vol_copy.proofs.Places.{amid_under}
 
 module _ {M : Type 0} {nor : NorOf M} where
@@ -45,21 +44,6 @@ module _ {M : Type 0} {nor : NorOf M} where
 
   pub all_up : (after : ℕ) (t : Task) (v : Volume M nor) → Rests (IsAllUpTo after) t v → Rests (IsUpTo after) t v
   all_up after t v has = rests_as (IsAllUpTo after) (IsUpTo after) t v (λ known files all. all.up) has
-
--- a record that was told
-pub told_file : (after : ℕ) (source : List File) (stat : Stat) → Some stat ≡ option_map stat_of (file_above after source) → (f : File) × (file_above after source ≡ Some f) × (stat ≡ stat_of f)
-told_file after source stat told = go (file_above after source) refl
-  where
-    go : (o : Option File) → file_above after source ≡ o → (f : File) × (file_above after source ≡ Some f) × (stat ≡ stat_of f)
-    go None is = absurd (none-some stat (sym (told ∙ ap (option_map stat_of) is)))
-    go (Some f) is = (f, is, same_Some stat (stat_of f) (told ∙ ap (option_map stat_of) is))
-
-pub told_none : (after : ℕ) (source : List File) → None ≡ option_map stat_of (file_above after source) → file_above after source ≡ None
-told_none after source told = go (file_above after source) refl
-  where
-    go : (o : Option File) → file_above after source ≡ o → file_above after source ≡ None
-    go None is = is
-    go (Some f) is = absurd (none-some (stat_of f) (told ∙ ap (option_map stat_of) is))
 
 -- what is passed is turned
 passed_turned : (after : ℕ) (stat : Stat) (is_new : Bool) (t : Task) (files : List File) (f : File) → file_above after t.source ≡ Some f → stat ≡ stat_of f → IsPassed stat is_new t files → IsTurned after (record { id = stat.id; is_new = is_new }) t files
@@ -77,7 +61,7 @@ there_seen stat t files seen there =
 module _ {N M : Type 0} {nor_from : NorOf N} {nor : NorOf M} (after : ℕ) (from : Reader N nor_from) (old : Volume M nor) where
   -- the source fails, or tells nothing more
   pub turn_none_cuts : CutsUnder (With nor_from from (Rests (IsUpTo after))) old old
-  turn_none_cuts = cuts_none (With nor_from from (Rests (IsUpTo after))) old (λ t has. rests_some (IsUpTo after) t old has.1) (λ t has known. up_under after t old has.1 known)
+  turn_none_cuts = cuts_none (With nor_from from (Rests (IsUpTo after))) old (λ t has. rests_some t old has.1) (λ t has known. up_under after t old has.1 known)
 
   pub turn_none_idle : Idles (With nor_from from (Rests (IsAllUpTo after))) old old
   turn_none_idle = λ t has known. reads_none old.nor.now
@@ -91,11 +75,11 @@ module _ {N M : Type 0} {nor_from : NorOf N} {nor : NorOf M} (after : ℕ) (from
   Before = With nor_from from (Rests (IsUpTo after))
 
   pub turn_last : found ≡ None → Leads Before (Rests (HasTurned after None)) old old
-  turn_last none = λ t has. rests_as (IsUpTo after) (IsLast after) t old (λ known files up. record { up = up; none = told_none after t.source (sym none ∙ told t.source (has.0 known)) }) has.1
+  turn_last none = λ t has. rests_as (IsUpTo after) (IsLast after) t old (λ known files up. record { up = up; none = found_none (file_above after t.source) (sym none ∙ told t.source (has.0 known)) }) has.1
 
   module _ (stat : Stat) (some : found ≡ Some stat) where
     file_is : (t : Task) → TellsFiles nor_from from t.source → (f : File) × (file_above after t.source ≡ Some f) × (stat ≡ stat_of f)
-    file_is t tells = told_file after t.source stat (sym some ∙ told t.source tells)
+    file_is t tells = found_some (file_above after t.source) stat (sym some ∙ told t.source tells)
 
     -- the record is the next
     turn_next : (t : Task) → Before t old → With nor_from from_mid (Rests (IsNext stat)) t old
@@ -158,7 +142,7 @@ module _ {N M : Type 0} {nor_from : NorOf N} {nor : NorOf M} (after : ℕ) (from
       missing_leads = λ t has. (λ known. tells_on more same_more (tells_on reads same (has.0 known)), rests_as (IsSeen stat false) (IsMissing stat) t mid (λ known files seen. record { next = seen.next; missing = seen.seen }) (seen_leads false mid looked t has))
 
       pub copied_cuts : CutsUnder Before old new
-      copied_cuts = cuts_then Before (With nor_from from_new (Rests (IsMissing stat))) old mid new (λ t has. rests_some (IsMissing stat) t mid has.1) (seen_cuts false mid looked) missing_leads copies
+      copied_cuts = cuts_then Before (With nor_from from_new (Rests (IsMissing stat))) old mid new (λ t has. rests_some t mid has.1) (seen_cuts false mid looked) missing_leads copies
 
       pub copied_idle : Idles (With nor_from from (Rests (IsAllUpTo after))) old new
       copied_idle = λ t has known. absurd (
@@ -202,7 +186,7 @@ module _ {N M : Type 0} {nor_from : NorOf N} {nor : NorOf M} (from : Reader N no
 
   pub gone_none : HasGone 0 (record { copied = 0; kept = 0 }) start
   gone_none = record {
-    cuts = cuts_none Start start (λ t has. rests_some (IsUpTo 0) t start has.1) (λ t has known. up_under 0 t start has.1 known);
+    cuts = cuts_none Start start (λ t has. rests_some t start has.1) (λ t has known. up_under 0 t start has.1 known);
     leads = λ t has. rests_as (IsUpTo 0) (HasCounted 0 (record { copied = 0; kept = 0 })) t start (λ known files up. record { up = up; counted = counts_none t up.fit }) has.1;
     idle = λ t has known. reads_none start.nor.now;
   }
@@ -222,7 +206,7 @@ module _ {N M : Type 0} {nor_from : NorOf N} {nor : NorOf M} (from : Reader N no
         (w.0, record { files = w.1.files; some = w.1.some; at = w.1.at; known = λ k. record { up = w.1.known k; there = subst (IsAllThere t.alike t.source) (sym files) (has.1.known k).there } })
 
     pub gone_cuts : CutsUnder (With nor_from from_mid (Rests (IsUpTo after))) mid new → CutsUnder Start start new
-    gone_cuts cuts = cuts_then Start (With nor_from from_mid (Rests (IsUpTo after))) start mid new (λ t has. rests_some (IsUpTo after) t mid has.1) gone.cuts here cuts
+    gone_cuts cuts = cuts_then Start (With nor_from from_mid (Rests (IsUpTo after))) start mid new (λ t has. rests_some t mid has.1) gone.cuts here cuts
 
     pub gone_idle : Idles (With nor_from from_mid (Rests (IsAllUpTo after))) mid new → Idles (With nor_from from (Rests (IsAllUpTo 0))) start new
     gone_idle idle = λ t has known. reads_then (gone.idle t has known) (idle t (all_here t has known) known)

@@ -9,7 +9,7 @@ use Rattle.table_model.specs.Room.{has_room}
 use Rattle.volume.specs.declared.volume.Volume.{Volume}
 use Rattle.copy_model.specs.declared.err.Copied.{Copied}
 use Rattle.copy_model.specs.declared.err.CopyErr.{CopyErr}
-use Rattle.copy_model.specs.declared.err.CopyErr.TheVariants.{Full, FromFault, ToFault}
+use Rattle.copy_model.specs.declared.err.CopyErr.TheVariants.{Full, ToFault}
 use Rattle.copy_model.specs.Copying.{working, kept_count}
 use Rattle.copy_model.specs.Stops.{full_as}
 use Rattle.copy_model.specs.Tasks.{Task}

@@ -1,7 +1,7 @@
 use Rattle.std.proofs.Common.{◌∙◌, Ok, Err, ap}
 use Rattle.copy_model.specs.Parts.{IsMissing}
 use Rattle.vol_copy.specs.Stages.{Rests, With, StopsFrom}
-use Rattle.vol_copy.proofs.Chains.{passed, passed_is}
+use Rattle.vol_copy.proofs.Exits.{passed, passed_is}
 use Rattle.vol_copy.proofs.Pages.{unopened_cuts, unopened_stops, unmade_cuts, unmade_stops, opened_cuts, opened_done, opened_stops}
 use Rattle.table_model.specs.Ask.{Opens}
 use Rattle.copy_model.specs.Copying.{working}

@@ -1,7 +1,7 @@
 use Rattle.std.proofs.Common.{◌≡◌, ◌∙◌, Ok, ap, arith}
 use Rattle.copy_model.specs.Parts.{IsFilling}
 use Rattle.vol_copy.specs.Stages.{Works, With, StopsFrom}
-use Rattle.vol_copy.proofs.Chains.{passed}
+use Rattle.vol_copy.proofs.Exits.{passed}
 use Rattle.vol_copy.proofs.Pages.{unfilled_cuts, unfilled_stops, closed_cuts, closed_done, closed_stops}
 use Rattle.table_model.specs.Ask.{Closes}
 use Rattle.vol_copy.specs.Went.{done_as}

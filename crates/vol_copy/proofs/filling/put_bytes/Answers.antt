@@ -8,7 +8,7 @@ use Rattle.geometry.specs.Numbers.{body}
 use Rattle.volume.proofs.Staying.{same_then, same_none}
 use Rattle.copy_model.specs.Parts.{IsFilling}
 use Rattle.vol_copy.specs.Stages.{Works, With, StopsFrom, IsPage}
-use Rattle.vol_copy.proofs.Chains.{passed}
+use Rattle.vol_copy.proofs.Exits.{passed}
 use Rattle.vol_copy.proofs.Readers.{reader_none, reader_then}
 use Rattle.vol_copy.proofs.Pages.{some_body, page_here, page_after, begun_cuts, begun_leads, more_cuts, more_leads, more_short, more_stops, all_filled}
 use Rattle.vol_copy.proofs.filling.put_bytes.Goals as goal

@@ -2,7 +2,7 @@ use Rattle.std.proofs.Common.{ℕ, List, length, sym, subst, ◌∙◌, ap}
 use Rattle.table_model.specs.Files.{bytes_at}
 use Rattle.copy_model.specs.Parts.{IsFilling}
 use Rattle.vol_copy.specs.Stages.{Works, With, StopsFrom, IsPage}
-use Rattle.vol_copy.proofs.Chains.{passed}
+use Rattle.vol_copy.proofs.Exits.{passed}
 use Rattle.vol_copy.proofs.Pages.{filled_none_with, unread_stops, page_cuts, page_stops, page_wrote}
 use Rattle.table_model.specs.Ask.{Writes}
 use Rattle.vol_copy.specs.Went.{wrote_as}

@@ -1,7 +1,8 @@
 use Rattle.vol_copy.specs.Stages.{With, Rests, StopsFrom}
 use Rattle.copy_model.specs.Parts.{IsMissing}
 use Rattle.volume.proofs.Staying.{same_then}
-use Rattle.vol_copy.proofs.Chains.{passed, whole_cuts, whole_stops, copied_cuts, copied_done, copied_stops}
+use Rattle.vol_copy.proofs.Chains.{whole_cuts, whole_stops, copied_cuts, copied_done, copied_stops}
+use Rattle.vol_copy.proofs.Exits.{passed}
 use Rattle.vol_copy.proofs.placing.copy_file.Goals as goal
 
 pub returns-in_err-fill-clause-stops : goal.returns-in_err-fill-clause-stops

@@ -1,7 +1,8 @@
 use Rattle.std.proofs.Common.{Err, ◌∙◌, ap}
 use Rattle.copy_model.specs.Parts.{IsMarked}
 use Rattle.vol_copy.specs.Stages.{Rests, OnlyFaults}
-use Rattle.vol_copy.proofs.Chains.{passed, passed_is, unplaced_cuts, unplaced_stops, placed_cuts, placed_done, placed_stops}
+use Rattle.vol_copy.proofs.Chains.{unplaced_cuts, unplaced_stops, placed_cuts, placed_done, placed_stops}
+use Rattle.vol_copy.proofs.Exits.{passed, passed_is}
 use Rattle.table_model.specs.Ask.{Removes, Renames}
 use Rattle.copy_model.specs.Copying.{working}
 use Rattle.vol_copy.specs.Went.{removed_as, done_as}
