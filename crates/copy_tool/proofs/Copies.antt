@@ -1,18 +1,16 @@
 -- What copying onto a target leaves, by how it was begun and how it ended.
-use Rattle.std.proofs.Common.{◌≡◌, ◌≢◌, ℕ, ◌<◌, ◌≤◌, ◌+◌, ◌⊎◌, List, length, refl, sym, ◌∙◌, ap, subst, arith, inl, inr, ⊎_elim, Bool, Option, Some, None, Result, Ok, Err}
+use Rattle.std.proofs.Common.{◌≡◌, ℕ, ◌<◌, List, refl, sym, ◌∙◌, ap, subst, arith, inl, inr, ⊎_elim, Bool, Option, Some, None, Result, Ok, Err}
 use Rattle.std.specs.Option.{option_map}
 use Rattle.geometry.specs.declared.geometry.Geometry.{Geometry}
 use Rattle.nor_core.specs.declared.state.NorState.{Ghosts as NorOf}
 use Rattle.nor_core.specs.Device.{Changes, OnlyReads}
-use Rattle.nor_core.proofs.Cuts.{wider, go_on, reads_then}
+use Rattle.nor_core.proofs.Cuts.{wider, go_on}
 use Rattle.table_model.specs.Table.{File, file_named}
-use Rattle.table_model.specs.Room.{has_room}
 use Rattle.image_model.specs.Tables.{table_of}
 use Rattle.image_model.specs.Tidy.{IsTidy, HasReserve}
 use Rattle.call_model.specs.Closed.{with_files}
-use Rattle.call_model.specs.Safe.{IsSafe}
 use Rattle.call_model.proofs.Safety.{holds_safe}
-use Rattle.copy_model.specs.Copying.{working, copied, without_name, kept_count}
+use Rattle.copy_model.specs.Copying.{working}
 use Rattle.copy_model.specs.Stops.{copy_stop}
 use Rattle.copy_model.specs.Under.{MayHave, IsUnder, IsCopied, IsPart}
 use Rattle.copy_model.specs.declared.err.Copied.{Copied}
@@ -22,16 +20,15 @@ use Rattle.volume.specs.declared.volume.Volume.{Volume}
 use Rattle.volume_run.specs.Resting.{IsAtRest}
 use Rattle.vol_copy.specs.Ends.{alike_of, CutsCopy, Ends, EndsFrom}
 use Rattle.tool_parts.specs.declared.ending.Ending.{Ending}
-use Rattle.tool_parts.specs.declared.ending.Ending.TheVariants.{BoardFault, SourceChipFault}
 use Rattle.tool_parts.specs.Begins.{Begun, IsTight, StopsRun}
 use Rattle.tool_parts.specs.Closing.{status_of}
-use Rattle.tool_parts.specs.Mounting.{Checks, IsRefused}
+use Rattle.tool_parts.specs.Mounting.{Checks}
 use Rattle.tool_parts.specs.Refusals.{check_refusal, begin_refusal, or_ending}
 use Rattle.tool_parts.proofs.Begun.{begins_on}
 use Rattle.tool_parts.proofs.Mounted.{holds_check, safe_check}
 use Rattle.tool_parts.proofs.Refusals.{not_both, refusal_is}
 use Rattle.copy_tool.specs.Endings.{copy_ends, target_stop}
-use Rattle.copy_tool.specs.Does.{KeepsNames, HasCopies, IsFull, IsKept, IsStuck, CopyLeaves, HasAll}
+use Rattle.copy_tool.specs.Does.{KeepsNames, IsStuck, CopyLeaves}
 use Rattle.copy_tool.specs.Steps.{IsOfTarget, IsDone, IsStopped, CopiesAs}
 use Rattle.copy_tool.proofs.Rests.{rest_table, rest_tidy, rest_reserve}
 

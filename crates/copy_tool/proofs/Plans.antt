@@ -1,5 +1,5 @@
 -- Words spell one copy, and what is refused before a device is read is refused for its words, numbers, device or memory.
-use Rattle.std.proofs.Common.{ℕ, ◌≡◌, ◌≢◌, sym, ◌∙◌, ap, subst, arith, Option, Some, None}
+use Rattle.std.proofs.Common.{◌≡◌, ◌≢◌, sym, ◌∙◌, ap, subst, arith, Option, Some, None}
 use Rattle.geometry.specs.declared.geometry.Geometry.{Geometry}
 use Rattle.geometry.specs.Numbers.{IsOf}
 use Rattle.geometry.proofs.Geometries.{same_numbers}

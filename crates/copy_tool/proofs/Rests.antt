@@ -15,7 +15,6 @@ use Rattle.fd_table.specs.declared.slot.FdSlot.{FdSlot}
 use Rattle.fd_table.specs.Slots.{descriptors, held}
 use Rattle.call_model.specs.Memory.{Memory, OpensFiles, IsAt}
 use Rattle.call_model.specs.Closed.{with_files}
-use Rattle.run_model.specs.Ran.{RunStands}
 use Rattle.volume.specs.declared.volume.Volume.{Volume}
 use Rattle.volume.specs.Holds.{memory}
 use Rattle.volume.specs.Stages.{takes_calls}

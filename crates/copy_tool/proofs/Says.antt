@@ -1,5 +1,5 @@
 -- How a copy ends before its closing line.
-use Rattle.std.proofs.Common.{◌≡◌, ◌≢◌, ℕ, ◌<◌, ◌≤◌, ◌+◌, ◌-◌, ◌⊎◌, List, [], ◌++◌, length, length-append, take, drop, refl, sym, ◌∙◌, ap, subst, arith, inl, inr, ⊎_elim, append-nil, Bool, true, false, cond, Option, Some, None, Result, Ok, Err}
+use Rattle.std.proofs.Common.{◌≡◌, ◌≢◌, ℕ, ◌-◌, ◌⊎◌, List, [], ◌++◌, length, length-append, take, drop, refl, sym, ◌∙◌, ap, subst, arith, inl, inr, ⊎_elim, append-nil, Bool, true, false, cond, Option, Some, None, Err}
 use Rattle.std.specs.Prelude.{nat_lt, unwrap_or}
 use Rattle.std.proofs.lemmas.List.{take-append-drop}
 use Rattle.geometry.specs.declared.geometry.Geometry.{Geometry}
@@ -14,14 +14,14 @@ use Rattle.vol_copy.specs.Ends.{alike_of}
 use Rattle.tool_parts.specs.declared.ending.Ending.{Ending}
 use Rattle.tool_parts.specs.declared.ending.Ending.TheVariants.{Done, NotAFs, Damaged, BoardFault, SourceChipFault}
 use Rattle.tool_parts.specs.Closing.{status_of}
-use Rattle.tool_parts.specs.Endings.{Speaks, WritesNone}
+use Rattle.tool_parts.specs.Endings.{Speaks}
 use Rattle.tool_parts.specs.Mounting.{Checks}
-use Rattle.tool_parts.specs.Refusals.{mount_refusal, check_refusal, tight_refusal, begin_refusal, or_ending, said_ending, unless_refused}
+use Rattle.tool_parts.specs.Refusals.{mount_refusal, check_refusal, tight_refusal, or_ending, said_ending, unless_refused}
 use Rattle.tool_parts.proofs.Mounted.{mount_changes}
 use Rattle.tool_parts.proofs.Refusals.{not_both}
 use Rattle.tool_parts.proofs.Speaking.{writes_none, none_said}
 use Rattle.copy_tool.specs.Endings.{copied_text, summary_of, target_stop, stop_of, copy_ending, copy_text}
-use Rattle.copy_tool.specs.Does.{HasCopies, LeavesBy, CopyLeaves, CopyCut, HasAll, IsUntaken}
+use Rattle.copy_tool.specs.Does.{HasCopies, LeavesBy, CopyLeaves, CopyCut, HasAll}
 use Rattle.copy_tool.specs.Steps.{IsSurveyed, StopsSurvey, IsDone, IsStopped, CopiesAs, CopiesTo}
 use Rattle.copy_tool.proofs.Copies.{checks_leave}
 

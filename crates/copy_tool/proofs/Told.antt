@@ -1,5 +1,5 @@
 -- What a copy leaves and says with its closing line.
-use Rattle.std.proofs.Common.{◌≡◌, ◌≢◌, ℕ, ◌≤◌, ◌⊎◌, List, [], ◌++◌, length, refl, sym, ◌∙◌, ap, subst, arith, inl, inr, ⊎_elim, append-nil}
+use Rattle.std.proofs.Common.{◌≡◌, ◌≢◌, ℕ, List, [], sym, ◌∙◌, subst, arith, inl, inr, ⊎_elim, append-nil}
 use Rattle.geometry.specs.declared.geometry.Geometry.{Geometry}
 use Rattle.nor_core.specs.declared.state.NorState.{Ghosts as NorOf}
 use Rattle.nor_core.specs.Count.{Rose}
@@ -14,7 +14,7 @@ use Rattle.tool_parts.specs.Reads.{ReadsOnce}
 use Rattle.tool_parts.proofs.Reading.{reads_said, behind_closed}
 use Rattle.tool_parts.proofs.Speaking.{concludes, none_closed}
 use Rattle.copy_tool.specs.Endings.{copy_text, copy_ending}
-use Rattle.copy_tool.specs.Does.{LeavesBy, CopyLeaves, CopyCut, EndsUnread, DoesCopy}
+use Rattle.copy_tool.specs.Does.{LeavesBy, CopyLeaves, CopyCut, DoesCopy}
 use Rattle.copy_tool.specs.Steps.{CopiesTo}
 
 -- a status that isn't 7 is that of the ending
@@ -28,6 +28,7 @@ closed_left {D} {nor} {gf} {g} {mid} {new} {source} {was} result status left clo
       done = λ one. here.done (⊎_elim (λ e. inl (fine_status result status 0 closes (λ x. omega (arith, x)) e)) (λ e. inr (fine_status result status 12 closes (λ x. omega (arith, x)) e)) one);
       full = λ e. here.full (fine_status result status 6 closes (λ x. omega (arith, x)) e);
       named = λ e. here.named (fine_status result status 13 closes (λ x. omega (arith, x)) e);
+      tight = λ e. here.tight (fine_status result status 14 closes (λ x. omega (arith, x)) e);
     }
 
 module _ {S D : Type 0} {from : NorOf S} {nor : NorOf D} {gf g : Geometry} {source : S} {old mid new : D} where

@@ -1,8 +1,8 @@
-use Rattle.std.proofs.Common.{◌∙◌, ap, sym, inr, arith, rules}
+use Rattle.std.proofs.Common.{◌∙◌, ap, inr, arith, rules}
 use Rattle.geometry.specs.Numbers.{write_refusal}
 use Rattle.tool_parts.proofs.Mounted.{mount_stops, mount_changes, check_stops, check_changes, check_idle, was_reported}
 use Rattle.tool_parts.proofs.Begun.{unchecked_stops, tight_stops, reported_begun}
-use Rattle.copy_tool.proofs.Begins.{mount_of_target, check_of_target, tight_of_target}
+use Rattle.copy_tool.proofs.Begins.{mount_of_target, check_of_target}
 use Rattle.copy_tool.proofs.beginning.begin.Goals as goal
 
 pub returns-in-Err-clause-of_target : goal.returns-in-Err-clause-of_target

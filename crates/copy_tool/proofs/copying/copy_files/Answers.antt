@@ -1,4 +1,4 @@
-use Rattle.std.proofs.Common.{◌≡◌, length, refl, arith}
+use Rattle.std.proofs.Common.{length, refl, arith}
 use Rattle.nor_core.proofs.Cuts.{reads_none, reads_then}
 use Rattle.image_model.specs.Tables.{table_of}
 use Rattle.vol_copy.proofs.Readers.{reader_none}
