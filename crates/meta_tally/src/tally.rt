@@ -7,7 +7,7 @@ ghost use Rattle.image_model.specs.Places.{IsImage, page_of as the_page};
 ghost use Rattle.image_model.specs.Headers.{name_of as the_name};
 ghost use Rattle.image_plain.specs.Leading.{is_text};
 ghost use Rattle.image_model.specs.Tables.{table_of, damaged_of};
-ghost use Rattle.meta_tally.specs.Heads.{head_at};
+ghost use Rattle.meta_tally.specs.Heads.{head_at, head_count};
 ghost use Rattle.meta_tally.specs.Names.{name_mark as the_name_mark, mark_at, is_named_at, IsMarked, Noted};
 ghost use Rattle.meta_tally.specs.Wholes.{is_complete_at as the_complete_at};
 ghost use Rattle.meta_tally.specs.Counted.{IsAlike, shadows, is_counted, with_one, Tallied, AreTallied};
@@ -284,6 +284,28 @@ fn count_pages(g: &Geometry, image: &[u8], names: &mut [u8], marks: &[u8], whole
     }
 }
 
+// Marks all pages, over the front of the bytes for work.
+fn mark_first(g: &Geometry, image: &[u8], work: &mut [u8], marks: &mut [u8]) -> u32
+    requires image { IsImage g.now image.now }
+    requires work { 557056 ≤ length work.old }
+    requires marks { page_count g.now ≤ length marks.old }
+    ensures count { result ≡ head_count g.now image.now }
+    ensures marked { IsMarked g.now image.now marks.new }
+{
+    mark_heads(g, image, &mut work[..0x8000], marks)
+}
+
+// Counts the files of all pages, over the rest of these bytes.
+fn count_behind(g: &Geometry, image: &[u8], work: &mut [u8], marks: &[u8], whole: &mut [u32])
+    requires image { IsImage g.now image.now }
+    requires work { 557056 ≤ length work.old }
+    requires marked { IsMarked g.now image.now marks.now }
+    requires whole { length whole.old ≡ 65 }
+    ensures { AreTallied g.now image.now whole.new }
+{
+    count_pages(g, image, &mut work[0x8000..WORK], marks, whole);
+}
+
 /// How many files of an image are whole by each number of meta bytes from 0 to 64. Answers how many ids have a header page: those
 /// whose file isn't among the whole ones are damaged. Of lent bytes it takes 557,056 for work and a byte for each page; what they
 /// hold doesn't matter.
@@ -301,7 +323,7 @@ pub fn tally_files(
     ensures heads { (h : AnyGeometry) → IsAlike g.now h → result ≡ length (table_of h image.now) + length (damaged_of h image.now) }
     ensures whole { AreTallied g.now image.now whole.new }
 {
-    let heads = mark_heads(g, image, &mut work[..0x8000], marks);
-    count_pages(g, image, &mut work[0x8000..WORK], marks, whole);
+    let heads = mark_first(g, image, work, marks);
+    count_behind(g, image, work, marks, whole);
     heads
 }

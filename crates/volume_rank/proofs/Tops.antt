@@ -47,7 +47,7 @@ module _ (g : Geometry) (image : List ℕ) (whole : List ℕ) (heads : ℕ) (ran
 
   first_is : (h : Geometry) → IsMeta g range.first h → CountsOf h image range.counts
   first_is h is =
-      let here : slice_index whole range.first ≡ length (table_of h image) = rw is.meta_is at (tally h is.same) in
+      let here : slice_index whole range.first ≡ length (table_of h image) = ap (λ (k : ℕ). slice_index whole k) (sym is.meta_is) ∙ tally h is.same in
       let sum = all h (alike g h is.same) in
       record { whole = top.counted ∙ here; damaged = omega (arith, top.counted, top.damaged, here, sum) }
 
@@ -57,7 +57,7 @@ module _ (g : Geometry) (image : List ℕ) (whole : List ℕ) (heads : ℕ) (ran
     few = top.last.few;
     equal = λ h same low high. sym (tally h same) ∙ top.last.equal h.meta low high ∙ sym top.counted;
     end = λ h same at equal.
-        let here : slice_index whole (range.last + 1) ≡ length (table_of h image) = rw at at (tally h same) in
+        let here : slice_index whole (range.last + 1) ≡ length (table_of h image) = ap (λ (k : ℕ). slice_index whole k) (sym at) ∙ tally h same in
         top.last.end (omega (arith, at, h.valid.meta_most)) (here ∙ equal ∙ top.counted);
   }
 
