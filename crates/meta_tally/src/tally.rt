@@ -98,14 +98,7 @@ fn shadows_at(g: &Geometry, image: &[u8], marks: &[u8], p: u32, mark: u8, name: 
 }
 
 // Whether a whole file has that name whose header page is one of those from `from` on and below `end`.
-fn is_shadowed(
-    g: &Geometry,
-    image: &[u8],
-    marks: &[u8],
-    from: u32,
-    end: u32,
-    name: &[u8],
-) -> bool
+fn is_shadowed(g: &Geometry, image: &[u8], marks: &[u8], from: u32, end: u32, name: &[u8]) -> bool
     requires image { IsImage g.now image.now }
     requires marked { IsMarked g.now image.now marks.now }
     requires end { end ≤ page_count g.now }
@@ -247,14 +240,7 @@ fn marked_name<'a>(g: &Geometry, image: &'a [u8], marks: &[u8], p: u32) -> Optio
 }
 
 // Counts the file of a page, if that is marked.
-fn count_page(
-    g: &Geometry,
-    image: &[u8],
-    names: &mut [u8],
-    marks: &[u8],
-    p: u32,
-    whole: &mut [u32],
-)
+fn count_page(g: &Geometry, image: &[u8], names: &mut [u8], marks: &[u8], p: u32, whole: &mut [u32])
     requires image { IsImage g.now image.now }
     requires marked { IsMarked g.now image.now marks.now }
     requires page { p < page_count g.now }

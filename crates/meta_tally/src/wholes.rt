@@ -122,30 +122,17 @@ fn entry_number(
 {
     let head_slots = g.head_slots();
     if span < head_slots {
-        return Some(u32::from(read_word(
-            head,
-            (45 + g.meta + 2 * span) as usize,
-        )));
+        return Some(u32::from(read_word(head, (45 + g.meta + 2 * span) as usize)));
     }
     let behind = span - head_slots;
     let index = known.page?;
     let page = own(g, image, id, index)?;
-    Some(u32::from(read_word(
-        page,
-        (8 + 2 * (behind % g.span_slots())) as usize,
-    )))
+    Some(u32::from(read_word(page, (8 + 2 * (behind % g.span_slots())) as usize)))
 }
 
 // Whether a span has its data page.
 #[tactic(auto, unfolding(image_model::specs::Files::data_page))]
-fn has_data(
-    g: &Geometry,
-    image: &[u8],
-    id: u16,
-    head: &[u8],
-    span: u32,
-    known: &Known,
-) -> bool
+fn has_data(g: &Geometry, image: &[u8], id: u16, head: &[u8], span: u32, known: &Known) -> bool
     requires image { IsImage g.now image.now }
     requires head { length head.now ≡ g.now.page }
     requires known { head_slots g.now ≤ span → known.now.page ≡ the_index_page g.now (the_own (the_live_at g.now image.now) id) ((span - head_slots g.now) / span_slots g.now + 1) }
@@ -172,7 +159,13 @@ fn known_for(g: &Geometry, image: &[u8], id: u16, span: u32, known: Known) -> Kn
     if span < head_slots {
         return known;
     }
-    index_of(g, image, id, (span - head_slots) / g.span_slots() + 1, known)
+    index_of(
+        g,
+        image,
+        id,
+        (span - head_slots) / g.span_slots() + 1,
+        known,
+    )
 }
 
 /// Whether each span of a file below its size has its data page.
