@@ -1,13 +1,13 @@
 -- What doesn't go by the meta bytes.
 use Rattle.std.specs.Prelude.{filter, is_some}
 use Rattle.std.specs.List.{range_with_len}
-use Rattle.std.proofs.Common.{◌≡◌, ℕ, Bool, length, List, Option, ap, refl, sym, ◌∙◌, subst}
+use Rattle.std.proofs.Common.{◌≡◌, ℕ, Bool, length, List, Option, ap, refl, sym, ◌∙◌}
 use Rattle.std.proofs.Math.Path.{fun_ext}
 use Rattle.geometry.specs.declared.geometry.Geometry.{Geometry}
 use Rattle.geometry.specs.Numbers.{per_block, lookups, page_count, IsOf}
 use Rattle.geometry.proofs.Geometries.{same_numbers}
 use Rattle.image_model.specs.Places.{IsImage, page_of, slot_of, entry_of, is_entry_page, has_magic}
-use Rattle.image_model.specs.Live.{Live, live_at, is_live, own}
+use Rattle.image_model.specs.Live.{Live, live_at, is_live}
 use Rattle.image_model.specs.Files.{index_page}
 use Rattle.meta_tally.specs.Heads.{head_at, head_count}
 use Rattle.meta_tally.specs.Names.{IsMarked, mark_at, is_named_at}

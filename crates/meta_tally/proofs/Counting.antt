@@ -1,8 +1,8 @@
 -- Files that count, by their header pages and by their ids: each id that has a header page has one of its own.
-use Rattle.std.proofs.Common.{◌≡◌, ◌≢◌, ℕ, zero, suc, ◌+◌, ◌%◌, ◌<◌, ◌≤◌, ◌==◌, ◌&&◌, not, Bool, true, false, cond, List, [], ◌∷◌, length, Option, Some, None, Result, Ok, Err, ap, refl, sym, subst, ◌∙◌, arith, ⊎_elim, if◌then◌else◌}
-use Rattle.std.specs.Prelude.{filter, is_some, is_none, nat_lt}
-use Rattle.std.specs.List.{range_with_len, list_any, sum_by, filter_map}
-use Rattle.std.proofs.lemmas.Bool.{cases_eq, cases_Bool, eq-eqb, ne_eqb, false≢true, and_parts, false_from_ne_true, lt-ltb, ltb-true, eqb-true}
+use Rattle.std.proofs.Common.{◌≡◌, ℕ, ◌+◌, ◌%◌, ◌<◌, ◌≤◌, ◌==◌, ◌&&◌, not, Bool, true, false, cond, List, [], ◌∷◌, length, Option, Some, None, Result, Ok, Err, ap, refl, sym, ◌∙◌, arith, ⊎_elim, if◌then◌else◌}
+use Rattle.std.specs.Prelude.{filter, is_some, is_none}
+use Rattle.std.specs.List.{range_with_len, list_any, sum_by}
+use Rattle.std.proofs.lemmas.Bool.{cases_Bool, eq-eqb, ne_eqb, false≢true, and_parts, false_from_ne_true, lt-ltb, ltb-true, eqb-true}
 use Rattle.std.proofs.lemmas.Option.{none-some, same_Some, some_pair_parts}
 use Rattle.std.proofs.lemmas.List.Sums.{sum_by-cons}
 use Rattle.geometry.specs.declared.geometry.Geometry.{Geometry}
@@ -12,8 +12,8 @@ use Rattle.image_model.specs.declared.damage.Damage.{Damage}
 use Rattle.image_model.specs.Places.{page_of}
 use Rattle.image_model.specs.Headers.{obj_id, name_of}
 use Rattle.image_model.specs.Live.{Live, live_at, own}
-use Rattle.image_model.specs.Files.{index_page, is_index, judged, judged_by, file_of, first_missing, found}
-use Rattle.image_model.specs.Tables.{Found, has_of, ids, is_before, counts, counted, records, damage, damages, table_of, damaged_of}
+use Rattle.image_model.specs.Files.{index_page, is_index, judged, judged_by, file_of, first_missing}
+use Rattle.image_model.specs.Tables.{Found, has_of, is_before, counts, counted, records, damage, damages, table_of, damaged_of}
 use Rattle.image_model.specs.Tidy.{is_number}
 use Rattle.image_laws.proofs.Frames.{live_parts}
 use Rattle.image_laws.proofs.Finish.{own-parts, has_of-within}

@@ -1,15 +1,15 @@
 -- Lookup entries of index pages.
-use Rattle.std.proofs.Common.{◌≡◌, ℕ, ◌+◌, ◌-◌, ◌*◌, ◌/◌, ◌%◌, ◌<◌, ◌≤◌, ◌==◌, ◌&&◌, not, Bool, true, false, List, Option, Some, None, length, ap, refl, sym, ◌∙◌, arith, ⊎_elim}
+use Rattle.std.proofs.Common.{◌≡◌, ℕ, ◌+◌, ◌-◌, ◌*◌, ◌%◌, ◌<◌, ◌≤◌, not, true, List, Option, Some, None, length, refl, arith, ⊎_elim}
 use Rattle.std.specs.Prelude.{nat_lt}
 use Rattle.std.proofs.lemmas.Nat.{div-mul-add, mod-mul-add}
 use Rattle.std.proofs.lemmas.Bool.{and_parts, false≢true, cases_lt, lt-ltb}
 use Rattle.geometry.specs.declared.geometry.Geometry.{Geometry}
-use Rattle.geometry.specs.Numbers.{per_block, lookups, entries, page_count}
+use Rattle.geometry.specs.Numbers.{per_block, lookups, entries}
 use Rattle.nor_core.specs.Flash.{word_at}
 use Rattle.image_model.specs.Within.{sizes, slot_fits}
-use Rattle.image_model.specs.Places.{IsImage, page_of, slot_of, entry_of, is_entry_page, block_of, place_of}
-use Rattle.image_model.specs.Headers.{obj_id, names_index, span_of}
-use Rattle.image_model.specs.Live.{Live, live_at, own}
+use Rattle.image_model.specs.Places.{IsImage, slot_of, entry_of, is_entry_page, block_of, place_of}
+use Rattle.image_model.specs.Headers.{obj_id}
+use Rattle.image_model.specs.Live.{live_at, own}
 use Rattle.image_model.specs.Files.{is_index}
 use Rattle.image_laws.proofs.Frames.{live_parts}
 use Rattle.image_laws.proofs.Finish.{own-parts}

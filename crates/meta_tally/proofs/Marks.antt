@@ -1,5 +1,5 @@
 -- Marks of header pages by their names.
-use Rattle.std.proofs.Common.{◌≡◌, ◌≢◌, ℕ, ◌+◌, ◌<◌, ◌%◌, ◌&&◌, List, Bool, true, false, Option, Some, None, slice_index, ap, refl, sym, ◌∙◌, arith}
+use Rattle.std.proofs.Common.{◌≡◌, ◌≢◌, ℕ, ◌<◌, ◌&&◌, List, true, false, Option, Some, None, slice_index, ap, refl, sym, ◌∙◌, arith}
 use Rattle.std.specs.Prelude.{is_some}
 use Rattle.std.proofs.lemmas.Bool.{false≢true, false_from_ne_true}
 use Rattle.geometry.specs.declared.geometry.Geometry.{Geometry}

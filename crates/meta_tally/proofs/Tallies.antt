@@ -1,22 +1,20 @@
 -- Files counted, page by page.
-use Rattle.std.proofs.Common.{◌≡◌, ◌≢◌, ℕ, ◌+◌, ◌-◌, ◌<◌, ◌≤◌, ◌==◌, ◌&&◌, not, Bool, true, false, cond, List, length, Option, Some, None, slice_index, slice_set, if◌then◌else◌, replicate, ap, refl, sym, ◌∙◌, arith, ⊎_elim, length-set}
-use Rattle.std.specs.Prelude.{nat_lt, is_some}
+use Rattle.std.proofs.Common.{◌≡◌, ◌≢◌, ℕ, ◌+◌, ◌-◌, ◌<◌, ◌≤◌, ◌&&◌, not, Bool, true, false, cond, List, length, Option, Some, None, slice_index, slice_set, ap, refl, sym, ◌∙◌, arith, ⊎_elim, length-set}
+use Rattle.std.specs.Prelude.{is_some}
 use Rattle.std.specs.List.{range_with_len, list_any}
-use Rattle.std.proofs.lemmas.Bool.{cases_eq, cases_lt, cases_Bool, eq-eqb, ne_eqb, lt-ltb, le-ltb, false≢true, and_parts, false_from_ne_true}
-use Rattle.std.proofs.lemmas.List.{get_or-set_same, get_or-set_other, get_or-replicate}
-use Rattle.std.proofs.lemmas.Option.{same_Some}
+use Rattle.std.proofs.lemmas.Bool.{cases_eq, cases_lt, cases_Bool, false≢true, and_parts, false_from_ne_true}
+use Rattle.std.proofs.lemmas.List.{get_or-set_same, get_or-set_other}
 use Rattle.geometry.specs.declared.geometry.Geometry.{Geometry}
 use Rattle.geometry.specs.Numbers.{page_count}
 use Rattle.image_model.specs.Places.{page_of}
 use Rattle.image_model.specs.Headers.{name_of}
-use Rattle.image_model.specs.Tables.{table_of}
 use Rattle.image_laws.proofs.Damaged.{any_from, any_at, same_truth}
 use Rattle.image_laws.proofs.Records.{bytes_same}
 use Rattle.image_plain.specs.Counted.{Counts}
 use Rattle.image_plain.specs.Leading.{is_text}
 use Rattle.image_plain.proofs.Ranges.{count_yes, count_no, count_none, count_all}
 use Rattle.meta_tally.specs.Heads.{head_at}
-use Rattle.meta_tally.specs.Names.{name_number, name_mark, mark_by, mark_at, IsMarked, is_named_at, Noted}
+use Rattle.meta_tally.specs.Names.{name_number, mark_by, mark_at, IsMarked, is_named_at, Noted}
 use Rattle.meta_tally.specs.Wholes.{is_complete_at}
 use Rattle.meta_tally.specs.Counted.{IsAlike, shadows, is_alone, is_counted, with_one, Tallied, AreTallied}
 use Rattle.meta_tally.proofs.Alike.{same_named, same_pages, same_mark, one_alike}

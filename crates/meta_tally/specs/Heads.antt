@@ -1,5 +1,5 @@
 -- Header pages in page order.
-use Rattle.std.specs.Prelude.{ℕ, ◌≡◌, ◌<◌, ◌≤◌, ◌%◌, ◌==◌, ◌&&◌, List, length, Bool, Option, Some, None, if◌then◌else◌, slice_index, slice_set, is_some, filter}
+use Rattle.std.specs.Prelude.{ℕ, ◌≡◌, ◌<◌, ◌%◌, ◌==◌, List, length, Bool, Option, Some, None, if◌then◌else◌, slice_index, slice_set, is_some, filter}
 use Rattle.std.specs.List.{range_with_len, list_any}
 use Rattle.geometry.specs.declared.geometry.Geometry.{Geometry}
 use Rattle.geometry.specs.Numbers.{page_count}

@@ -1,5 +1,5 @@
 -- Marks of pages by the names of files.
-use Rattle.std.specs.Prelude.{ℕ, ◌≡◌, ◌<◌, ◌≤◌, ◌+◌, ◌*◌, ◌%◌, ◌^◌, ◌&&◌, List, length, Bool, true, Option, Some, None, slice_index, is_some}
+use Rattle.std.specs.Prelude.{ℕ, ◌≡◌, ◌<◌, ◌≤◌, ◌+◌, ◌*◌, ◌%◌, ◌&&◌, List, length, Bool, true, Option, Some, None, slice_index, is_some}
 use Rattle.std.specs.List.{fold}
 use Rattle.geometry.specs.declared.geometry.Geometry.{Geometry}
 use Rattle.geometry.specs.Numbers.{page_count}

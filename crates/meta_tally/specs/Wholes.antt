@@ -1,5 +1,5 @@
 -- Files that have all their data pages.
-use Rattle.std.specs.Prelude.{ℕ, ◌≡◌, ◌%◌, ◌⊎◌, List, Bool, Option, None, is_none}
+use Rattle.std.specs.Prelude.{ℕ, ◌≡◌, ◌%◌, ◌⊎◌, List, Bool, is_none}
 use Rattle.geometry.specs.declared.geometry.Geometry.{Geometry}
 use Rattle.image_model.specs.Places.{page_of}
 use Rattle.image_model.specs.Headers.{obj_id}

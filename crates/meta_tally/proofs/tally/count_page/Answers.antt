@@ -1,6 +1,4 @@
 use Rattle.std.proofs.Common.{refl}
-use Rattle.image_model.specs.Places.{page_of}
-use Rattle.meta_tally.specs.Names.{mark_at}
 use Rattle.meta_tally.proofs.Tallies.{noted_nothing, tally_nothing, unmarked_alike}
 use Rattle.meta_tally.proofs.tally.count_page.Goals as goal
 

@@ -1,5 +1,4 @@
-use Rattle.std.proofs.Common.{◌≤◌, ◌∙◌, arith}
-use Rattle.geometry.specs.Numbers.{page_count}
+use Rattle.std.proofs.Common.{◌∙◌, arith}
 use Rattle.meta_tally.proofs.Tallies.{none_tallied, all_tallied, none_noted}
 use Rattle.meta_tally.proofs.tally.count_pages.Goals as goal
 

@@ -1,4 +1,4 @@
-use Rattle.std.proofs.Common.{◌≡◌, ◌<◌, sym, ◌∙◌, arith}
+use Rattle.std.proofs.Common.{sym, ◌∙◌}
 use Rattle.meta_tally.specs.Counted.{shadows}
 use Rattle.meta_tally.proofs.Finds.{any_here, any_later, any_past}
 use Rattle.meta_tally.proofs.tally.is_shadowed.Goals as goal

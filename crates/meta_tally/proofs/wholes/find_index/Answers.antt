@@ -1,7 +1,5 @@
-use Rattle.std.proofs.Common.{◌≡◌, ◌+◌, ◌-◌, ◌*◌, ◌<◌, ◌≤◌, ℕ, sym, ◌∙◌, ap, refl, arith, Option, Some, None}
+use Rattle.std.proofs.Common.{◌≡◌, ◌*◌, ℕ, sym, refl, arith}
 use Rattle.std.proofs.Math.Nat.{sub-zero}
-use Rattle.std.specs.Prelude.{find}
-use Rattle.std.specs.List.{range_with_len}
 use Rattle.geometry.specs.Numbers.{per_block, page_count}
 use Rattle.image_model.specs.Live.{live_at, own}
 use Rattle.image_model.specs.Files.{is_index, index_page}

@@ -1,6 +1,4 @@
-use Rattle.std.proofs.Common.{◌≡◌, ◌+◌, ◌-◌, ◌*◌, ◌<◌, ◌≤◌, ℕ, sym, ◌∙◌, ap, refl, arith, Option, Some, None}
-use Rattle.std.specs.Prelude.{find}
-use Rattle.std.specs.List.{range_with_len}
+use Rattle.std.proofs.Common.{◌≡◌, ◌+◌, ◌-◌, ◌*◌, ◌<◌, ◌≤◌, ℕ, sym, ◌∙◌, refl, arith}
 use Rattle.geometry.specs.Numbers.{per_block}
 use Rattle.image_model.specs.Live.{live_at, own}
 use Rattle.image_model.specs.Files.{is_index}
