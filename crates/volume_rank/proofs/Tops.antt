@@ -1,14 +1,14 @@
 -- What most files are whole by, from how many are whole by each number of meta bytes.
-use Rattle.std.proofs.Common.{◌≡◌, ℕ, ◌+◌, ◌-◌, ◌<◌, ◌≤◌, Bool, true, false, List, length, slice_index, if◌then◌else◌, ap, refl, sym, ◌∙◌, subst, arith, ⊎_elim}
+use Rattle.std.proofs.Common.{◌≡◌, ℕ, ◌+◌, ◌<◌, ◌≤◌, List, length, slice_index, if◌then◌else◌, ap, refl, sym, ◌∙◌, subst, arith, ⊎_elim}
 use Rattle.std.specs.Prelude.{nat_lt}
-use Rattle.std.proofs.lemmas.Bool.{cases_lt, cases_eq, lt-ltb, le-ltb}
+use Rattle.std.proofs.lemmas.Bool.{cases_lt, lt-ltb, le-ltb}
 use Rattle.geometry.specs.declared.geometry.Geometry.{Geometry}
 use Rattle.image_model.specs.Tables.{table_of, damaged_of}
-use Rattle.meta_guess.specs.Guesses.{SameBut, IsMeta, CountsOf, CountsBy}
+use Rattle.meta_guess.specs.Guesses.{SameBut, IsMeta, CountsOf}
 use Rattle.meta_tally.specs.Counted.{IsAlike, AreTallied}
 use Rattle.volume_rank.specs.declared.found.MetaRange.{MetaRange}
 use Rattle.volume_rank.specs.Ranges.{ReadsEqual, IsRange}
-use Rattle.volume_rank.specs.Tops.{IsBestOf, IsLastOf, IsTop}
+use Rattle.volume_rank.specs.Tops.{IsBestOf, IsTop}
 
 pub best_next : (whole : List ℕ) (meta best next : ℕ) → IsBestOf whole meta best → next ≡ (if nat_lt (slice_index whole best) (slice_index whole meta) then meta else best) → IsBestOf whole (meta + 1) next
 best_next whole meta best next was is = ⊎_elim

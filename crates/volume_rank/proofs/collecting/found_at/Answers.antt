@@ -1,6 +1,5 @@
-use Rattle.std.proofs.Common.{ℕ, drop, refl, sym, subst, arith}
+use Rattle.std.proofs.Common.{ℕ, drop, refl, sym, subst}
 use Rattle.volume_detect.specs.Places.{byte_of}
-use Rattle.meta_guess.specs.Guesses.{IsMeta}
 use Rattle.volume_rank.specs.Ranges.{IsRange}
 use Rattle.volume_rank.proofs.collecting.found_at.Goals as goal
 
