@@ -1,4 +1,3 @@
-pub mod Needs
-pub mod Equal
+pub mod Tops
 pub mod Lists
 pub mod Orders

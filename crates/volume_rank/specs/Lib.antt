@@ -1,3 +1,4 @@
 pub mod Ranges
+pub mod Tops
 pub mod Finds
 pub mod Order

@@ -1,17 +1,16 @@
 //! All candidates of a file.
 ghost use Rattle.std.specs.Prelude.{◌≡◌, ℕ, ◌+◌, ◌*◌, ◌<◌, ◌≤◌, ◌^◌, length, drop, OnErr, IfOk};
-ghost use Rattle.geometry.specs.Numbers.{scratch_need, cache_need, check_need};
+ghost use Rattle.geometry.specs.declared.geometry.Geometry.{Geometry as AnyGeometry};
+ghost use Rattle.meta_guess.specs.Guesses.{IsMeta};
 ghost use Rattle.volume_detect.specs.Places.{IsFoundAt};
 ghost use Rattle.volume_detect.specs.Words.{HasWords};
 ghost use Rattle.volume_rank.specs.Finds.{IsFound, AreAll, AreMore};
 ghost use Rattle.volume_rank.specs.Ranges.{IsRange};
 
 use crate::found::{Found, MetaRange};
-use crate::ranges::{meta_range, with_meta};
+use crate::ranges::{METAS, top_range, with_meta};
 use geometry::Geometry;
-use meta_guess::Counts;
-use nor_core::Failed;
-use nor_image::Image;
+use meta_tally::tally_files;
 use thiserror::Error;
 use volume_detect::{byte_of, next_candidate};
 
@@ -21,57 +20,30 @@ use volume_detect::{byte_of, next_candidate};
 pub struct TooFew;
 
 // What the volume at a byte of the file reads.
-fn range_at(
-    file: &[u8],
-    at: u32,
-    g: &Geometry,
-    work: &mut [u8],
-    cache: &mut [u8],
-    marks: &mut [u8],
-) -> MetaRange
+fn range_at(file: &[u8], at: u32, g: &Geometry, work: &mut [u8], marks: &mut [u8]) -> MetaRange
     requires small { length file.now < 2 ^ 32 }
     requires inside { at + g.now.blocks * g.now.block ≤ length file.now }
-    requires meta { g.now.meta ≡ 0 }
-    requires work { scratch_need g.now ≤ length work.old }
-    requires cache { cache_need g.now ≤ length cache.old }
-    requires check { check_need g.now ≤ length marks.old }
+    requires work { 2 ^ 20 ≤ length work.old }
+    requires check { 73727 ≤ length marks.old }
     ensures few { result.first ≤ 64 }
-    ensures range { IsRange g.now (drop at file.now) result }
+    ensures range { (h : AnyGeometry) → IsMeta g.now result.first h → IsRange g.now (drop at file.now) result }
 {
-    let mut image = Image::new(&file[at as usize..], g.phys());
-    match meta_range(g, &mut image, work, cache, marks) {
-        Ok(range) => range,
-        // (an image never fails)
-        Err(Failed) => MetaRange {
-            first: 0,
-            last: 0,
-            counts: Counts {
-                whole: 0,
-                damaged: 0,
-            },
-        },
-    }
+    let mut whole = [0u32; METAS];
+    let heads = tally_files(g, &file[at as usize..], work, marks, &mut whole);
+    top_range(&whole, heads)
 }
 
 // A candidate, with what it reads.
-fn found_at(
-    file: &[u8],
-    place: u32,
-    g: &Geometry,
-    work: &mut [u8],
-    cache: &mut [u8],
-    marks: &mut [u8],
-) -> Found
+fn found_at(file: &[u8], place: u32, g: &Geometry, work: &mut [u8], marks: &mut [u8]) -> Found
     requires small { length file.now < 2 ^ 32 }
     requires place { place < 84 * 2 ^ 20 }
     requires found { IsFoundAt file.now place g.now }
     requires work { 2 ^ 20 ≤ length work.old }
-    requires cache { 4104 ≤ length cache.old }
     requires check { 73727 ≤ length marks.old }
     ensures found { IsFound file.now result }
     ensures place { result.place ≡ place }
 {
-    let range = range_at(file, byte_of(place), g, work, cache, marks);
+    let range = range_at(file, byte_of(place), g, work, marks);
     Found {
         place,
         volume: with_meta(g, range.first),
@@ -82,7 +54,7 @@ fn found_at(
 
 /// Gets all candidates of a file into a lent list, in order of their places, each with what it reads. Answers how many they are,
 /// or that the list is too short for them. The file's words are those that `volume_detect::read_words` reads. Of lent bytes it takes
-/// 1,048,576 for work, 4,104 or more for copies of pages, and 73,727 for marks, which is enough for every volume.
+/// 1,048,576 for work and 73,727 for marks, which is enough for every volume; those for copies of pages aren't used.
 pub fn collect(
     file: &[u8],
     words: &[u8],
@@ -105,7 +77,7 @@ pub fn collect(
         if count == found.len() {
             return Err(TooFew);
         }
-        found[count] = found_at(file, place, &g, work, cache, marks);
+        found[count] = found_at(file, place, &g, work, marks);
         count += 1;
         from = place + 1;
     }

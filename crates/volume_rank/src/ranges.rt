@@ -1,20 +1,14 @@
 // The numbers of meta bytes that read most of a volume.
-ghost use Rattle.std.specs.Prelude.{◌≡◌, ℕ, ◌+◌, ◌*◌, ◌<◌, ◌≤◌, ◌^◌, ◌==◌, length, IfOk, OnErr};
-ghost use Rattle.geometry.specs.declared.geometry.Geometry.{Geometry as AnyGeometry};
-ghost use Rattle.geometry.specs.Numbers.{scratch_need, cache_need, check_need};
-ghost use Rattle.nor_core.specs.Count.{Rose};
-ghost use Rattle.nor_core.specs.Device.{OnlyReads};
-ghost use Rattle.image_model.specs.Tables.{table_of};
-ghost use Rattle.meta_guess.specs.Guesses.{SameBut, IsMeta};
-ghost use Rattle.volume_rank.specs.Ranges.{IsRange, ReadsEqual};
+ghost use Rattle.std.specs.Prelude.{◌≡◌, ℕ, ◌+◌, ◌<◌, ◌≤◌, length, slice_index, nat_lt, if◌then◌else◌};
+ghost use Rattle.meta_guess.specs.Guesses.{IsMeta};
+ghost use Rattle.volume_rank.specs.Tops.{IsBestOf, IsLastOf, IsTop};
 
 use crate::found::MetaRange;
 use geometry::Geometry;
-use meta_guess::{count_files, guess_meta};
-use nor_core::{Failed, Nor, NorState};
+use meta_guess::Counts;
 
-// The most meta bytes that a file has.
-const MOST_META: u32 = 64;
+/// How many numbers of meta bytes there are.
+pub(crate) const METAS: usize = 65;
 
 // The same volume with another number of meta bytes.
 pub(crate) fn with_meta(g: &Geometry, meta: u32) -> Geometry
@@ -26,84 +20,59 @@ pub(crate) fn with_meta(g: &Geometry, meta: u32) -> Geometry
     other
 }
 
-// Whether so many files are whole by that number of meta bytes.
-fn reads_as_many<N: Nor>(
-    g: &Geometry,
-    meta: u32,
-    whole: u32,
-    nor: &mut N,
-    work: &mut [u8],
-    cache: &mut [u8],
-    marks: &mut [u8],
-) -> Result<bool, Failed>
-    requires meta { meta ≤ 64 }
-    requires unit { N.unit nor.old ≡ g.now.phys }
-    requires fits { g.now.blocks * g.now.block ≤ N.size nor.old }
-    requires work { scratch_need g.now ≤ length work.old }
-    requires cache { cache_need g.now ≤ length cache.old }
-    requires check { check_need g.now ≤ length marks.old }
-    ensures cause { OnErr result (Rose (N.faults nor.old) (N.faults nor.new)) }
-    ensures reads { OnlyReads N.NorState nor.old nor.new }
-    ensures told { N.tells nor.old → IfOk result (λ same. (h : AnyGeometry) → SameBut g.now h → h.meta ≡ meta → same ≡ (length (table_of h (N.bytes nor.old)) == whole)) }
+// Of two numbers of meta bytes the one by which more files are whole; of equal ones the first.
+fn better(whole: &[u32], best: u32, meta: u32) -> u32
+    requires best { best < length whole.now }
+    requires meta { meta < length whole.now }
+    ensures { result ≡ (if nat_lt (slice_index whole.now best) (slice_index whole.now meta) then meta else best) }
 {
-    let counts = count_files(&with_meta(g, meta), nor, work, cache, marks)?;
-    Ok(counts.whole == whole)
+    if whole[best as usize] < whole[meta as usize] {
+        meta
+    } else {
+        best
+    }
 }
 
-// The last number of meta bytes from the first on by which so many files are whole.
-fn last_meta<N: Nor>(
-    g: &Geometry,
-    first: u32,
-    whole: u32,
-    nor: &mut N,
-    work: &mut [u8],
-    cache: &mut [u8],
-    marks: &mut [u8],
-) -> Result<u32, Failed>
-    requires first { first ≤ 64 }
-    requires unit { N.unit nor.old ≡ g.now.phys }
-    requires fits { g.now.blocks * g.now.block ≤ N.size nor.old }
-    requires work { scratch_need g.now ≤ length work.old }
-    requires cache { cache_need g.now ≤ length cache.old }
-    requires check { check_need g.now ≤ length marks.old }
-    ensures cause { OnErr result (Rose (N.faults nor.old) (N.faults nor.new)) }
-    ensures reads { OnlyReads N.NorState nor.old nor.new }
-    ensures told { N.tells nor.old → IfOk result (λ last. ReadsEqual g.now (N.bytes nor.old) whole first last) }
+// The least number by which most files are whole.
+fn best_meta(whole: &[u32]) -> u32
+    requires { length whole.now ≡ 65 }
+    ensures { IsBestOf whole.now 65 result }
 {
-    for meta in first + 1..MOST_META + 1 {
-        if !reads_as_many(g, meta, whole, nor, work, cache, marks)? {
-            return Ok(meta - 1);
+    let mut best = 0;
+    for meta in 1..METAS as u32 {
+        best = better(whole, best, meta);
+    }
+    best
+}
+
+// The last of the numbers that follow one and by which as many are whole.
+fn last_meta(whole: &[u32], first: u32) -> u32
+    requires len { length whole.now ≡ 65 }
+    requires first { first ≤ 64 }
+    ensures { IsLastOf whole.now first result }
+{
+    for meta in first + 1..METAS as u32 {
+        if whole[meta as usize] != whole[first as usize] {
+            return meta - 1;
         }
     }
-    Ok(MOST_META)
+    METAS as u32 - 1
 }
 
-/// The numbers of meta bytes from 0 to 64 by which most files of a volume are whole: the least of them, the last of those that
-/// follow it without a gap, and what they read. Nothing is written. The one error is a fault of the device. The lent bytes are
-/// those of `meta_guess::count_files`.
-pub(crate) fn meta_range<N: Nor>(
-    g: &Geometry,
-    nor: &mut N,
-    work: &mut [u8],
-    cache: &mut [u8],
-    marks: &mut [u8],
-) -> Result<MetaRange, Failed>
-    requires meta { g.now.meta ≡ 0 }
-    requires unit { N.unit nor.old ≡ g.now.phys }
-    requires fits { g.now.blocks * g.now.block ≤ N.size nor.old }
-    requires work { scratch_need g.now ≤ length work.old }
-    requires cache { cache_need g.now ≤ length cache.old }
-    requires check { check_need g.now ≤ length marks.old }
-    ensures cause { OnErr result (Rose (N.faults nor.old) (N.faults nor.new)) }
-    ensures reads { OnlyReads N.NorState nor.old nor.new }
-    ensures few { IfOk result (λ range. range.first ≤ 64) }
-    ensures told { N.tells nor.old → IfOk result (IsRange g.now (N.bytes nor.old)) }
+/// The numbers of meta bytes by which most files are whole, and what they read: `whole` tells how many are whole by each, `heads` how
+/// many ids have a header page.
+pub(crate) fn top_range(whole: &[u32], heads: u32) -> MetaRange
+    requires { length whole.now ≡ 65 }
+    ensures { IsTop whole.now heads result }
 {
-    let guess = guess_meta(g, nor, work, cache, marks)?;
-    let last = last_meta(g, guess.meta, guess.best.whole, nor, work, cache, marks)?;
-    Ok(MetaRange {
-        first: guess.meta,
-        last,
-        counts: guess.best,
-    })
+    let first = best_meta(whole);
+    let most = whole[first as usize];
+    MetaRange {
+        first,
+        last: last_meta(whole, first),
+        counts: Counts {
+            whole: most,
+            damaged: heads.saturating_sub(most),
+        },
+    }
 }

@@ -1,21 +1,14 @@
-use Rattle.std.proofs.Common.{ℕ, drop, refl, sym, subst, arith}
+use Rattle.std.proofs.Common.{ℕ, drop, refl, sym, subst}
 use Rattle.volume_detect.specs.Places.{byte_of}
 use Rattle.volume_rank.specs.Ranges.{IsRange}
-use Rattle.volume_rank.proofs.Needs.{scratch_most, check_most}
 use Rattle.volume_rank.proofs.collecting.found_at.Goals as goal
-
-pub range_at-range-requires-clause-work : goal.range_at-range-requires-clause-work
-range_at-range-requires-clause-work c = omega (arith, scratch_most c.args.g.now, c.requires.work)
-
-pub range_at-range-requires-clause-check : goal.range_at-range-requires-clause-check
-range_at-range-requires-clause-check c = omega (arith, check_most c.args.g.now, c.requires.check)
 
 pub returns-clause-found : goal.returns-clause-found
 returns-clause-found c =
     let g = c.args.g.now in
     let file = c.args.file.now in
     let range = c.range_at-range.result in
-    let here : IsRange g (drop (byte_of c.args.place) file) range = subst (λ (x : ℕ). IsRange g (drop x file) range) c.byte_of.ensures c.range_at-range.ensures.range in
+    let here : IsRange g (drop (byte_of c.args.place) file) range = subst (λ (x : ℕ). IsRange g (drop x file) range) c.byte_of.ensures (c.range_at-range.ensures.range c.with_meta.result c.with_meta.ensures) in
     record {
       candidate = g;
       found = c.requires.found;

@@ -1,0 +1,4 @@
+pub mod Heads
+pub mod Names
+pub mod Wholes
+pub mod Counted
