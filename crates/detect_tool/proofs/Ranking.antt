@@ -1,53 +1,19 @@
 -- Candidates put in order, and read in it one after the other.
 use Rattle.std.proofs.Common.{◌≡◌, ◌==◌, ℕ, zero, suc, ◌<◌, ◌≤◌, ◌⊎◌, ◌&&◌, ◌||◌, true, nat_lt, List, [], ◌∷◌, length, slice_index_or, All, AllPairs, HoldsAt, IsPermutation, Option, Some, None, inl, inr, refl, sym, ap, ◌∙◌, subst, arith, ⊎_elim}
-use Rattle.std.proofs.lemmas.Bool.{cases_lt, or_cases, or_left, or_right, and_parts, and_from, ltb-true, lt-ltb, eqb-true, eq-eqb}
+use Rattle.std.proofs.lemmas.Bool.{cases_lt}
 use Rattle.std.proofs.lemmas.List.{get_or_default}
 use Rattle.std.proofs.lemmas.List.Elements.{All-nil, All-cons, All-head, All-tail, All-weaker, Contains-get_or}
 use Rattle.std.proofs.lemmas.List.Sorted.{IsPermutation-refl, IsPermutation-cons, IsPermutation-sym, IsPermutation-trans, IsPermutation-middle, All-permutation, Contains-permutation}
 use Rattle.volume_rank.specs.declared.found.Found.{Found}
 use Rattle.volume_rank.specs.Order.{IsBefore, is_before, is_behind, FirstBehind}
+use Rattle.volume_rank.proofs.Orders.{before_is, is_tested, not_itself, before_then as tested_then}
 use Rattle.detect_tool.specs.Ranked.{IsRanking}
 
--- three numbers in this order
-abbrev Less : (a b c d e f : ℕ) → Type 0
-Less a b c d e f = (d < a) ⊎ ((a ≡ d) × ((b < e) ⊎ ((b ≡ e) × (c < f))))
-
-less_then : (a b c d e f x y z : ℕ) → Less a b c d e f → Less d e f x y z → Less a b c x y z
-less_then a b c d e f x y z one two = grind arith
-
-less_not : (a b c d e f : ℕ) → Less a b c d e f → Less d e f a b c → ⊥
-less_not a b c d e f one two = grind arith
-
 before_then : (f g h : Found) → IsBefore f g → IsBefore g h → IsBefore f h
-before_then f g h one two = less_then f.counts.whole f.counts.damaged f.place g.counts.whole g.counts.damaged g.place h.counts.whole h.counts.damaged h.place one two
+before_then f g h one two = before_is f h (tested_then f g h (is_tested f g one) (is_tested g h two))
 
 not_both : (f g : Found) → IsBefore f g → IsBefore g f → ⊥
-not_both f g one two = less_not f.counts.whole f.counts.damaged f.place g.counts.whole g.counts.damaged g.place one two
-
--- the test tells it
-before_is : (f g : Found) → is_before f g ≡ true → IsBefore f g
-before_is f g is = ⊎_elim
-    (λ (more : nat_lt g.counts.whole f.counts.whole ≡ true). inl (ltb-true _ _ more))
-    (λ (rest : ((f.counts.whole == g.counts.whole) && (nat_lt f.counts.damaged g.counts.damaged || ((f.counts.damaged == g.counts.damaged) && nat_lt f.place g.place))) ≡ true).
-    let w = and_parts _ _ rest in
-    inr (
-      eqb-true _ _ w.0,
-      ⊎_elim
-          (λ (less : nat_lt f.counts.damaged g.counts.damaged ≡ true). inl (ltb-true _ _ less))
-          (λ (last : ((f.counts.damaged == g.counts.damaged) && nat_lt f.place g.place) ≡ true). let v = and_parts _ _ last in inr (eqb-true _ _ v.0, ltb-true _ _ v.1))
-          (or_cases _ _ w.1),
-    ))
-    (or_cases _ _ is)
-
-is_tested : (f g : Found) → IsBefore f g → is_before f g ≡ true
-is_tested f g is = ⊎_elim
-    (λ (more : g.counts.whole < f.counts.whole). or_left _ _ (lt-ltb _ _ more))
-    (λ (rest : (f.counts.whole ≡ g.counts.whole) × ((f.counts.damaged < g.counts.damaged) ⊎ ((f.counts.damaged ≡ g.counts.damaged) × (f.place < g.place)))).
-    or_right _ _ (and_from _ _ (eq-eqb _ _ rest.0) (⊎_elim
-    (λ (less : f.counts.damaged < g.counts.damaged). or_left _ _ (lt-ltb _ _ less))
-    (λ (last : (f.counts.damaged ≡ g.counts.damaged) × (f.place < g.place)). or_right _ _ (and_from _ _ (eq-eqb _ _ last.0) (lt-ltb _ _ last.1)))
-    rest.1)))
-    is
+not_both f g one two = not_itself f (is_tested f f (before_then f g f one two))
 
 -- of two of other places one comes before the other
 before_or : (f g : Found) → f.place < g.place → IsBefore f g ⊎ IsBefore g f

@@ -5,7 +5,7 @@ use Rattle.volume_rank.specs.declared.found.Found.{Found}
 use Rattle.volume_rank.specs.Order.{IsBefore, is_before, is_behind, FirstBehind, Better}
 
 -- the test tells it
-before_is : (f g : Found) → is_before f g ≡ true → IsBefore f g
+pub before_is : (f g : Found) → is_before f g ≡ true → IsBefore f g
 before_is f g is = ⊎_elim
     (λ (more : nat_lt g.counts.whole f.counts.whole ≡ true). inl (ltb-true _ _ more))
     (λ (rest : ((f.counts.whole == g.counts.whole) && (nat_lt f.counts.damaged g.counts.damaged || ((f.counts.damaged == g.counts.damaged) && nat_lt f.place g.place))) ≡ true).
@@ -19,7 +19,7 @@ before_is f g is = ⊎_elim
     ))
     (or_cases _ _ is)
 
-is_tested : (f g : Found) → IsBefore f g → is_before f g ≡ true
+pub is_tested : (f g : Found) → IsBefore f g → is_before f g ≡ true
 is_tested f g is = ⊎_elim
     (λ (more : g.counts.whole < f.counts.whole). or_left _ _ (lt-ltb _ _ more))
     (λ (rest : (f.counts.whole ≡ g.counts.whole) × ((f.counts.damaged < g.counts.damaged) ⊎ ((f.counts.damaged ≡ g.counts.damaged) × (f.place < g.place)))).
@@ -37,7 +37,7 @@ less_then : (a b c d e f x y z : ℕ) → Less a b c d e f → Less d e f x y z 
 less_then a b c d e f x y z one two = grind arith
 
 -- it goes on
-before_then : (f g h : Found) → is_before f g ≡ true → is_before g h ≡ true → is_before f h ≡ true
+pub before_then : (f g h : Found) → is_before f g ≡ true → is_before g h ≡ true → is_before f h ≡ true
 before_then f g h one two = is_tested f h (less_then f.counts.whole f.counts.damaged f.place g.counts.whole g.counts.damaged g.place h.counts.whole h.counts.damaged h.place (before_is f g one) (before_is g h two))
 
 -- none is before itself
