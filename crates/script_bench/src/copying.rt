@@ -105,6 +105,7 @@ fn has_now(
 }
 
 // The files of the source, those that the target had at first, and those that it has now.
+#[derive(Clone, Copy)]
 struct Names<'n> {
     is_alike: bool,
     source: &'n [Record],
