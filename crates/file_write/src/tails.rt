@@ -18,11 +18,15 @@ use nor_core::{Failed, Nor, NorState};
 use page_layout::{BODY_AT, data_pages, entry_place, wide_index_span};
 use page_renew::{Found, find_home, seek_index};
 
-// Whether all these bytes are 0xFF.
+// Whether all these bytes are 0xFF. (Without an early end many bytes are compared at once.)
 fn are_ones(bytes: &[u8]) -> bool
     ensures { result ≡ the_erased bytes.now }
 {
-    bytes.iter().all(|byte| *byte == 0xFF)
+    let mut least = 0xFF;
+    for byte in bytes {
+        least = (*byte).min(least);
+    }
+    least == 0xFF
 }
 
 // Whether the bytes of a page from a place on are 0xFF.
@@ -34,8 +38,8 @@ fn ends_in_ones<N: Nor>(v: &mut View<'_, N>, page: u16, from: u32) -> Result<boo
     ensures looks { OnlyLooks v.old v.new }
     ensures told { N.tells v.old.nor.now → IfOk result (λ ones. ones ≡ the_erased (drop from (page_of v.old.geometry (N.bytes v.old.nor.now) page))) }
 {
-    v.fetch(page)?;
-    Ok(are_ones(&v.fetched()[from as usize..]))
+    v.hold(page)?;
+    Ok(are_ones(&v.held(page)[from as usize..]))
 }
 
 // Whether the bytes of the last data page of a file of that size past the size are 0xFF, in a tidy image.

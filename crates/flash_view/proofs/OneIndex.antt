@@ -1,23 +1,24 @@
 -- In a tidy image an object has one index page of a span.
-use Rattle.std.proofs.Common.{◌≡◌, ℕ, ◌%◌, List, true, ◌&&◌, ◌==◌, ap, refl, sym, ◌∙◌, ⊎_elim}
+use Rattle.std.proofs.Common.{◌≡◌, ℕ, ◌%◌, List, true, false, ◌&&◌, ◌==◌, ap, refl, sym, ◌∙◌, ⊎_elim}
 use Rattle.std.specs.Prelude.{Option, Some, None, is_some}
 use Rattle.std.specs.List.{range_with_len, list_any}
-use Rattle.std.proofs.lemmas.Bool.{and_parts, or_cases, eqb-true, false≢true}
+use Rattle.std.proofs.lemmas.Bool.{and_parts, or_cases, cases_Bool, eqb-true, false≢true}
 use Rattle.std.proofs.lemmas.Option.{same_Some}
 use Rattle.geometry.specs.declared.geometry.Geometry.{Geometry}
 use Rattle.table_model.specs.Room.{index_pages, data_pages}
 use Rattle.image_model.specs.Places.{IsImage}
 use Rattle.image_model.specs.Headers.{obj_id, names_index, span_of, size_of}
-use Rattle.image_model.specs.Live.{live_at, own}
+use Rattle.image_model.specs.Live.{Live, live_at, own}
 use Rattle.image_model.specs.Files.{is_index, index_page, entry_number, data_of}
 use Rattle.image_model.specs.Tidy.{IsTidy, is_number, serves}
 use Rattle.image_laws.proofs.Damaged.{any_at}
 use Rattle.image_laws.proofs.Judge.{index_passes}
+use Rattle.image_laws.proofs.Append.{own-some}
 use Rattle.image_laws.proofs.Finish.{own-parts}
 use Rattle.image_laws.proofs.Wants.{number-is}
 use Rattle.image_laws.proofs.Tally.{wants}
 use Rattle.image_laws.proofs.TidySteps.{neat_of}
-use Rattle.flash_view.specs.Found.{index_near}
+use Rattle.flash_view.specs.Found.{index_near, headed}
 use Rattle.flash_view.proofs.Near.{near_is_first}
 
 some_index : (o : Option (List ℕ)) (span : ℕ) → is_index o span ≡ true → (x : List ℕ) × (o ≡ Some x)
@@ -65,3 +66,19 @@ module _ (g : Geometry) (a : List ℕ) (is : IsImage g a) (t : IsTidy g a) (id s
   -- so it doesn't matter where the search for it begins
   pub near_tidy : (near : ℕ) → index_near g (own (live_at g a) id) span near ≡ index_page g (own (live_at g a) id) span
   near_tidy near = near_is_first g (own (live_at g a) id) span near one_index
+
+-- a page that is an id's header page is an index page of the id
+headed_own : (live : Live) (id p : ℕ) (o : Option (List ℕ)) → live p ≡ o → Some id ≡ headed o → is_index (own live id p) 0 ≡ true
+headed_own live id p None at e = absurd (cc)
+headed_own live id p (Some page) at e =
+    ⊎_elim
+    (λ (yes' : is_index (Some page) 0 ≡ true).
+    let same : Some id ≡ Some (obj_id page % 0x8000) = rw yes' at e in
+    let mine : obj_id page % 0x8000 ≡ id = cc in
+    rw (own-some live id p page at mine) yes')
+    (λ (no' : is_index (Some page) 0 ≡ false). let none : Some id ≡ None = rw no' at e in absurd (cc))
+    (cases_Bool (is_index (Some page) 0))
+
+-- so it is the one that a search finds
+pub header_only : (g : Geometry) (a : List ℕ) → IsImage g a → IsTidy g a → (id p : ℕ) → Some id ≡ headed (live_at g a p) → Some p ≡ index_page g (own (live_at g a) id) 0
+header_only g a is t id p e = sym (index_only g a is t id 0 p (headed_own (live_at g a) id p (live_at g a p) refl e))

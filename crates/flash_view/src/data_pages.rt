@@ -94,10 +94,11 @@ impl<'b, N: Nor> View<'b, N> {
         if u32::from(page) >= self.geometry.pages() {
             return Ok(false);
         }
-        if self.lookup_entry(page)? != id {
+        let entry = self.lookup_entry(page)?;
+        if entry != id {
             return Ok(false);
         }
-        Ok(match self.live_header(page)? {
+        Ok(match self.live_behind(page, entry)? {
             Some(head) => is_data(head, id, span),
             None => false,
         })

@@ -1,19 +1,19 @@
 //! Hints: the numbers of pages that were found to be header pages, noted in the bytes for work behind the page that was read, two bytes
 //! each. Several ids or names have one place, and other code uses these bytes too, so any number may stand there: whoever takes a hint
 //! looks at its page, and where that isn't the header page that is sought, at the others (`find_near`, `find_name_near`).
-ghost use Rattle.std.specs.Prelude.{◌≡◌, ◌+◌, ◌*◌, ◌/◌, ◌<◌, ◌≤◌, take, OnErr, IfOk, IfSome};
+ghost use Rattle.std.specs.Prelude.{◌≡◌, ◌+◌, ◌*◌, ◌/◌, ◌<◌, ◌≤◌, take, OnErr, IfOk, IfSome, Some, true};
 ghost use Rattle.geometry.specs.Numbers.{scratch_need, usable, page_count};
 ghost use Rattle.nor_core.specs.Count.{Rose};
 ghost use Rattle.image_model.specs.Live.{live_at, own};
 ghost use Rattle.image_model.specs.Files.{index_page};
 ghost use Rattle.image_model.specs.Tidy.{IsTidy};
-ghost use Rattle.flash_view.specs.Found.{first_named};
+ghost use Rattle.flash_view.specs.Found.{first_named, headed};
 ghost use Rattle.flash_view.specs.Same.{OnlyLooks};
 
 use crate::View;
 use geometry::Geometry;
 use nor_core::{Failed, Nor, NorState};
-use page_layout::{INDEX_BIT, put_word, read_word};
+use page_layout::{put_word, read_word};
 
 // How many hints there is room for.
 fn hint_count(g: &Geometry) -> u32
@@ -117,28 +117,30 @@ impl<'b, N: Nor> View<'b, N> {
         put_word(work, at, page);
     }
 
-    // From which page on to look for the header page of an id: from that of its hint, if this has the entry of the id's index pages, else
-    // from behind the header page that was found last.
+    // Whether a page is a live header page of an id. The number may be past the volume's end.
     #[tactic(auto, using(crate::proofs::Looking::looks_none))]
-    fn id_near(&mut self, id: u16) -> Result<u16, Failed>
+    fn is_header_of(&mut self, page: u16, id: u16) -> Result<bool, Failed>
         ensures cause { OnErr result (Rose (N.faults self.old.nor.now) (N.faults self.new.nor.now)) }
         ensures looks { OnlyLooks self.old self.new }
+        ensures inside { IfOk result (λ is. is ≡ true → page < page_count self.old.geometry) }
+        ensures told { N.tells self.old.nor.now → IfOk result (λ is. is ≡ true → Some id ≡ headed (live_at self.old.geometry (N.bytes self.old.nor.now) page)) }
         ensures work { self.new.work.now ≡ self.old.work.now }
     {
-        let page = self.hint(id);
-        let last = self.hint(0);
         if u32::from(page) >= self.geometry.pages() {
-            return Ok(last.saturating_add(1));
+            return Ok(false);
         }
-        let entry = self.lookup_entry(page)?;
-        Ok(if entry == INDEX_BIT + id % INDEX_BIT {
-            page
-        } else {
-            last.saturating_add(1)
+        Ok(match self.header_id(page)? {
+            Some(found) => found == id,
+            None => false,
         })
     }
 
-    // The same for a name: from the page of its hint, if this holds the name.
+    // From which page on to look for a header page of which no hint is right: from behind the header page that was found last.
+    fn behind_last(&self) -> u16 {
+        self.hint(0).saturating_add(1)
+    }
+
+    // From which page on to look for the header page with a name: from that of its hint, if this holds the name, else so.
     #[tactic(auto, using(crate::proofs::Looking::looks_none))]
     fn name_near(&mut self, name: &[u8]) -> Result<u16, Failed>
         ensures cause { OnErr result (Rose (N.faults self.old.nor.now) (N.faults self.new.nor.now)) }
@@ -146,12 +148,11 @@ impl<'b, N: Nor> View<'b, N> {
         ensures built { take self.old.geometry.page self.new.work.now ≡ take self.old.geometry.page self.old.work.now }
     {
         let page = self.name_hint(name);
-        let last = self.hint(0);
         if u32::from(page) >= self.geometry.pages() {
-            return Ok(last.saturating_add(1));
+            return Ok(self.behind_last());
         }
         let has = self.has_name(page, name)?;
-        Ok(if has { page } else { last.saturating_add(1) })
+        Ok(if has { page } else { self.behind_last() })
     }
 
     /// The header page of an id, in a tidy image the one that `find_index` gives. The page of its hint comes first, else those behind the
@@ -164,7 +165,12 @@ impl<'b, N: Nor> View<'b, N> {
         ensures told { N.tells self.old.nor.now → IsTidy self.old.geometry (N.bytes self.old.nor.now) → IfOk result (λ page. page ≡ index_page self.old.geometry (own (live_at self.old.geometry (N.bytes self.old.nor.now)) id) 0) }
         ensures kept { take (2 * self.old.geometry.page) self.new.work.now ≡ take (2 * self.old.geometry.page) self.old.work.now }
     {
-        let near = self.id_near(id)?;
+        let hinted = self.hint(id);
+        if self.is_header_of(hinted, id)? {
+            self.note_hint(0, hinted);
+            return Ok(Some(hinted));
+        }
+        let near = self.behind_last();
         let Some(page) = self.find_near(id, 0, near)? else {
             return Ok(None);
         };

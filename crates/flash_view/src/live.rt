@@ -118,6 +118,26 @@ impl<'b, N: Nor> View<'b, N> {
         }
     }
 
+    // The header of a page, if the page is live, by its lookup entry as `lookup_entry` gives it.
+    #[tactic(auto, unfolding(crate::specs::DataPages::lookup_entry, image_model::specs::Live::live_at, image_model::specs::Live::is_live, image_model::specs::Places::is_entry_page, geometry::specs::Numbers::page_count, geometry::specs::Numbers::per_block, geometry::specs::Numbers::lookups), using(crate::proofs::Looking::looks_then, crate::proofs::Looking::looks_none))]
+    pub(crate) fn live_behind(
+        &mut self,
+        page: u16,
+        entry: u16,
+    ) -> Result<Option<PageHeader>, Failed>
+        requires { page < page_count self.old.geometry }
+        ensures cause { OnErr result (Rose (N.faults self.old.nor.now) (N.faults self.new.nor.now)) }
+        ensures looks { OnlyLooks self.old self.new }
+        ensures told { N.tells self.old.nor.now → entry ≡ the_lookup_entry self.old.geometry (N.bytes self.old.nor.now) page → IfOk result (λ head. head ≡ option_map header_at (live_at self.old.geometry (N.bytes self.old.nor.now) page)) }
+        ensures work { self.new.work.now ≡ self.old.work.now }
+    {
+        let g = self.geometry;
+        if !is_entry_page(&g, page) {
+            return Ok(None);
+        }
+        self.live_by(block_of(&g, page), page, entry)
+    }
+
     /// The index page of an object and a span: the first live one in page order. Span 0 is the header page.
     #[tactic(auto, using(crate::proofs::Looking::looks_then))]
     pub fn find_index(&mut self, id: u16, span: u16) -> Result<Option<u16>, Failed>
@@ -283,10 +303,11 @@ impl<'b, N: Nor> View<'b, N> {
         ensures told { N.tells self.old.nor.now → IfOk result (λ id. id ≡ headed (live_at self.old.geometry (N.bytes self.old.nor.now) page)) }
         ensures work { self.new.work.now ≡ self.old.work.now }
     {
-        if !is_index_entry(self.lookup_entry(page)?) {
+        let entry = self.lookup_entry(page)?;
+        if !is_index_entry(entry) {
             return Ok(None);
         }
-        Ok(match self.live_header(page)? {
+        Ok(match self.live_behind(page, entry)? {
             Some(head) => headed_id(head),
             None => None,
         })
@@ -300,8 +321,8 @@ impl<'b, N: Nor> View<'b, N> {
         ensures told { N.tells self.old.nor.now → IfOk result (λ name. name ≡ the_name_of (page_of self.old.geometry (N.bytes self.old.nor.now) page)) }
         ensures built { take self.old.geometry.page self.new.work.now ≡ take self.old.geometry.page self.old.work.now }
     {
-        self.hold(page)?;
-        Ok(name_of(self.held(page)))
+        let f = self.bring(page)?;
+        Ok(name_of(self.brought(f, page)))
     }
 
     /// Whether a page holds that name, in the field of header pages.
@@ -312,7 +333,7 @@ impl<'b, N: Nor> View<'b, N> {
         ensures told { N.tells self.old.nor.now → IfOk result (λ has. has ≡ is_name (the_name_of (page_of self.old.geometry (N.bytes self.old.nor.now) page)) name.now) }
         ensures built { take self.old.geometry.page self.new.work.now ≡ take self.old.geometry.page self.old.work.now }
     {
-        self.hold(page)?;
-        Ok(is_named(self.held(page), name))
+        let f = self.bring(page)?;
+        Ok(is_named(self.brought(f, page), name))
     }
 }

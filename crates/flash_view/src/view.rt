@@ -10,7 +10,9 @@ ghost use Rattle.flash_view.specs.Table.{HasTable};
 use crate::places::{block_of, entry_start, lookup_of, lookup_page, page_start};
 use geometry::Geometry;
 use nor_core::{Board, Failed, Mark, Nor, NorState};
-use page_cache::{Cached, erase_through, held_page, hold_page, program_through, read_page};
+use page_cache::{
+    Cached, bring, brought, erase_through, held_page, hold_page, program_through, read_page,
+};
 use page_layout::{PageHeader, count_offset, header_of, magic_offset, read_count, read_word};
 
 /// A volume's device, with its geometry and the bytes that were lent for its work.
@@ -78,7 +80,7 @@ impl<'b, N: Nor> View<'b, N> {
     ghost use Rattle.image_model.specs.Places.{page_of, slot_of, entry_at, entry_of as the_entry_of, has_magic as the_magic, erase_count as the_erase_count};
     ghost use Rattle.image_model.specs.Tidy.{is_erased as the_erased};
     ghost use Rattle.page_layout.specs.Layout.{header_at};
-    ghost use Rattle.page_cache.specs.Frames.{holds, held};
+    ghost use Rattle.page_cache.specs.Frames.{holds, held, frame_count, page_in};
     ghost use Rattle.page_cache.specs.Kept.{IsKept};
     ghost use Rattle.flash_view.specs.Same.{IsSameView, OnlyLooks};
 
@@ -139,8 +141,8 @@ impl<'b, N: Nor> View<'b, N> {
         let k = lookup_of(&g, i);
         let page = lookup_page(&g, block, k);
         let at = (2 * i - k * g.page()) as usize;
-        self.hold(page)?;
-        Ok(read_word(self.held(page), at))
+        let f = self.bring(page)?;
+        Ok(read_word(self.brought(f, page), at))
     }
 
     /// The entry of a page: free, deleted, or the id of its object with bit 15 set in index pages.
@@ -197,8 +199,8 @@ impl<'b, N: Nor> View<'b, N> {
         ensures told { N.tells self.old.nor.now → IfOk result (λ head. head ≡ header_at (page_of self.old.geometry (N.bytes self.old.nor.now) page)) }
         ensures work { self.new.work.now ≡ self.old.work.now }
     {
-        self.hold(page)?;
-        Ok(header_of(self.held(page)))
+        let f = self.bring(page)?;
+        Ok(header_of(self.brought(f, page)))
     }
 
     /// Reads bytes of a page, from its byte `start` on.
@@ -212,10 +214,10 @@ impl<'b, N: Nor> View<'b, N> {
         ensures work { self.new.work.now ≡ self.old.work.now }
         ensures small { (k : ℕ) → slice_index into.new k < 256 }
     {
-        self.hold(page)?;
+        let f = self.bring(page)?;
         let from = start as usize;
         let end = from + into.len();
-        into.copy_from_slice(&self.held(page)[from..end]);
+        into.copy_from_slice(&self.brought(f, page)[from..end]);
         Ok(())
     }
 
@@ -228,8 +230,37 @@ impl<'b, N: Nor> View<'b, N> {
         ensures told { N.tells self.old.nor.now → IfOk result (λ word. word ≡ word_at (page_of self.old.geometry (N.bytes self.old.nor.now) page) start) }
         ensures work { self.new.work.now ≡ self.old.work.now }
     {
-        self.hold(page)?;
-        Ok(read_word(self.held(page), start as usize))
+        let f = self.bring(page)?;
+        Ok(read_word(self.brought(f, page), start as usize))
+    }
+
+    /// Gets a page held, and tells its frame, for `brought`.
+    #[tactic(auto, using(crate::proofs::Rows::table_stays, crate::proofs::Behind::behind_reads))]
+    pub(crate) fn bring(&mut self, page: u16) -> Result<usize, Failed>
+        requires { page < page_count self.old.geometry }
+        ensures cause { OnErr result (Rose (N.faults self.old.nor.now) (N.faults self.new.nor.now)) }
+        ensures looks { OnlyLooks self.old self.new }
+        ensures once { N.device_reads self.new.nor.now ≤ N.device_reads self.old.nor.now + 1 }
+        ensures below { IfOk result (λ f. f < frame_count self.new.geometry self.new.cache.now) }
+        ensures number { IfOk result (λ f. page_in self.new.geometry self.new.cache.now f ≡ page) }
+        ensures work { self.new.work.now ≡ self.old.work.now }
+    {
+        let g = self.geometry;
+        bring(&g, self.nor, self.cache, page)
+    }
+
+    /// The bytes of a page that is held in the frame `f`.
+    #[tactic(auto, unfolding(image_model::specs::Places::page_of))]
+    pub(crate) fn brought(&self, f: usize, page: u16) -> &[u8]
+        requires page { page < page_count self.now.geometry }
+        requires below { f < frame_count self.now.geometry self.now.cache.now }
+        requires number { page_in self.now.geometry self.now.cache.now f ≡ page }
+        ensures len { length result.now ≡ self.now.geometry.page }
+        ensures bytes { N.tells self.now.nor.now → result.now ≡ page_of self.now.geometry (N.bytes self.now.nor.now) page }
+        ensures small { (k : ℕ) → slice_index result.now k < 256 }
+    {
+        let bytes = brought(&self.geometry, self.nor, self.cache, f, page);
+        bytes
     }
 
     /// Gets a page held, for `held`.
@@ -312,8 +343,8 @@ impl<'b, N: Nor> View<'b, N> {
         ensures told { N.tells self.old.nor.now → IfOk result (λ blank. blank ≡ the_erased (page_of self.old.geometry (N.bytes self.old.nor.now) page)) }
         ensures built { take self.old.geometry.page self.new.work.now ≡ take self.old.geometry.page self.old.work.now }
     {
-        self.hold(page)?;
-        Ok(is_erased(self.held(page)))
+        let f = self.bring(page)?;
+        Ok(is_erased(self.brought(f, page)))
     }
 
     /// Programs bytes of the volume: bits are cleared, and none is set.

@@ -51,10 +51,10 @@ impl<'b, N: Nor> View<'b, N> {
         let start = k * slots;
         let end = g.entries().min(start + slots);
         let page = lookup_page(&g, block, k);
-        self.hold(page)?;
+        let f = self.bring(page)?;
         let from = (at - start) as usize;
         let to = (end - start) as usize;
-        match slot_between(self.held(page), from, to, low, high) {
+        match slot_between(self.brought(f, page), from, to, low, high) {
             Some((i, entry)) => Ok(Some((start + i as u32, entry))),
             None => Ok(None),
         }
@@ -129,7 +129,7 @@ impl<'b, N: Nor> View<'b, N> {
 
     // The header of a page, if the page is live, by its block and its entry. The page is held then. (The magic comes first:
     // where there is one frame alone, it takes the place of the page.)
-    #[tactic(auto, unfolding(image_model::specs::Live::live_at, image_model::specs::Live::is_live, image_model::specs::Places::is_entry_page), using(crate::proofs::Looking::looks_then, crate::proofs::Parts::finished_is))]
+    #[tactic(auto, unfolding(image_model::specs::Live::live_at, image_model::specs::Live::is_live, image_model::specs::Places::is_entry_page), using(crate::proofs::Looking::looks_then, crate::proofs::Parts::finished_is, page_cache::proofs::Held::holds_by))]
     pub(crate) fn live_by(
         &mut self,
         block: u16,
@@ -147,8 +147,8 @@ impl<'b, N: Nor> View<'b, N> {
         if !self.has_magic(block)? {
             return Ok(None);
         }
-        self.hold(page)?;
-        let head = header_of(self.held(page));
+        let f = self.bring(page)?;
+        let head = header_of(self.brought(f, page));
         if entry != head.id {
             return Ok(None);
         }

@@ -57,6 +57,7 @@ fn page_of(g: &Geometry, frames: &[u8], f: usize) -> u16
 }
 
 // The first frame from `from` on, below `to`, that holds a page.
+#[inline(never)]
 fn first_with(g: &Geometry, frames: &[u8], from: usize, to: usize, page: u16) -> Option<usize>
     requires { to ≤ the_frame_count g.now frames.now }
     ensures found { IfSome result (λ f. (f < to) × (page_in g.now frames.now f ≡ page)) }
@@ -99,6 +100,7 @@ fn home(g: &Geometry, frames: &[u8], page: u16) -> usize
 }
 
 // The frame that holds a page.
+#[inline(always)]
 pub(crate) fn find(g: &Geometry, frames: &[u8], page: u16) -> Option<usize>
     requires need { cache_need g.now ≤ length frames.now }
     requires page { page < page_count g.now }

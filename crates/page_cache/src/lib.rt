@@ -8,4 +8,6 @@ mod frames;
 mod through;
 
 pub use cached::Cached;
-pub use through::{erase_through, held_page, hold_page, program_through, read_page, read_through};
+pub use through::{
+    bring, brought, erase_through, held_page, hold_page, program_through, read_page, read_through,
+};

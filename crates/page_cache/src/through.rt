@@ -42,6 +42,7 @@ fn load_frame<N: Nor>(
 }
 
 // A page that is not held gets into a frame.
+#[inline(never)]
 fn bring_missing<N: Nor>(
     g: &Geometry,
     nor: &mut N,
@@ -72,8 +73,13 @@ fn bring_missing<N: Nor>(
     }
 }
 
-// The frame of a page, which gets there from the device if it is not held.
-fn bring<N: Nor>(g: &Geometry, nor: &mut N, frames: &mut [u8], page: u16) -> Result<usize, Failed>
+/// Gets a page of the volume held, as `hold_page` does, and tells its frame, for `brought`.
+pub fn bring<N: Nor>(
+    g: &Geometry,
+    nor: &mut N,
+    frames: &mut [u8],
+    page: u16,
+) -> Result<usize, Failed>
     requires need { cache_need g.now ≤ length frames.old }
     requires page { page < page_count g.now }
     requires volume { g.now.blocks * g.now.block ≤ N.size nor.old }
@@ -121,6 +127,20 @@ pub fn hold_page<N: Nor>(
     }
 }
 
+/// The bytes of a page that is held in the frame `f`, lent from there.
+#[inline(always)]
+pub fn brought<'a, N: Nor>(g: &Geometry, nor: &N, frames: &'a [u8], f: usize, page: u16) -> &'a [u8]
+    requires page { page < page_count g.now }
+    requires volume { g.now.blocks * g.now.block ≤ N.size nor.now }
+    requires kept { IsKept N.NorState g.now nor.now frames.now }
+    requires below { f < the_frame_count g.now frames.now }
+    requires number { page_in g.now frames.now f ≡ page }
+    ensures size { length result.now ≡ g.now.page }
+    ensures bytes { N.tells nor.now → result.now ≡ slice_range (N.bytes nor.now) (page * g.now.page) (page * g.now.page + g.now.page) }
+{
+    &frame(g, frames, f)[HEAD..]
+}
+
 /// The bytes of a page that is held, lent from its frame.
 pub fn held_page<'a, N: Nor>(g: &Geometry, nor: &N, frames: &'a [u8], page: u16) -> &'a [u8]
     requires need { cache_need g.now ≤ length frames.now }
@@ -132,7 +152,7 @@ pub fn held_page<'a, N: Nor>(g: &Geometry, nor: &N, frames: &'a [u8], page: u16)
     ensures bytes { N.tells nor.now → result.now ≡ slice_range (N.bytes nor.now) (page * g.now.page) (page * g.now.page + g.now.page) }
 {
     let f = holder(g, frames, page);
-    &frame(g, frames, f)[HEAD..]
+    brought(g, nor, frames, f, page)
 }
 
 // Reads bytes of a page, from its byte `start` on.

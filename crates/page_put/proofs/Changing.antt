@@ -56,7 +56,7 @@ rest_changes g h is p page work b c rest =
     page_changes g p page (p * g.page + 5) (length (slice_range work 5 g.page)) b c (omega arith) (omega (arith, length-take (g.page - 5) (drop 5 work), g.valid.page_least)) (rw is at rest)
 
 -- what holds beside any sort
-if_some : {P Q : Type 0} (o : Option Sort) → (P → Q) → IfSome o (λ s. P) → IfSome o (λ s. Q)
+pub if_some : {P Q : Type 0} (o : Option Sort) → (P → Q) → IfSome o (λ s. P) → IfSome o (λ s. Q)
 if_some None f h = tt
 if_some (Some s) f h = f h
 

@@ -8,3 +8,4 @@ pub mod Erasures
 pub mod Clearing
 pub mod Killed
 pub mod Putting
+pub mod Counted

@@ -107,8 +107,43 @@ pub fn finish<N: Nor>(v: &mut View<'_, N>, page: u16) -> Result<(), Failed>
     recount(v, page, before?)
 }
 
+// The program that finishes a page that was placed: it clears FINAL, one bit.
+fn program_final<N: Nor>(v: &mut View<'_, N>, page: u16) -> Result<(), Failed>
+    requires page { IsEntryPage v.old.geometry page }
+    ensures cause { OnErr result (Rose (N.faults v.old.nor.now) (N.faults v.new.nor.now)) }
+    ensures same { IsSameView v.old v.new }
+    ensures wrote { v.new.wrote ≡ true }
+    ensures rows { v.new.rows.now ≡ v.old.rows.now }
+    ensures changes { Changes N.NorState v.old.nor.now v.new.nor.now (HalfProgrammed (page * v.old.geometry.page + 4) (0xFD ∷ [])) }
+    ensures done { N.tells v.old.nor.now → OnOk result (N.bytes v.new.nor.now ≡ programmed (N.bytes v.old.nor.now) (page * v.old.geometry.page + 4) (0xFD ∷ [])) }
+    ensures few { N.device_writes v.new.nor.now ≤ N.device_writes v.old.nor.now + 1 }
+{
+    let erased = Flags::from_bits(0xFF);
+    v.program_in(page, 4, &[erased.finished().bits()])
+}
+
+// The four programs of a page that is put, over which no row is touched.
+#[tactic(auto, using(flash_view::proofs::Looking::same_then))]
+fn program_put<N: Nor>(v: &mut View<'_, N>, page: u16, kind: Kind, tag: Tag) -> Result<(), Failed>
+    requires page { IsEntryPage v.old.geometry page }
+    requires id { (1 ≤ tag.id) × (tag.id ≤ 0x7FFE) }
+    ensures step { Stepped failed v.old v.new result (putting page kind tag v.old.work.now) }
+    ensures same { IsSameView v.old v.new }
+    ensures wrote { v.new.wrote ≡ true }
+    ensures told { N.tells v.old.nor.now → N.tells v.new.nor.now }
+    ensures told_before { N.tells v.new.nor.now → N.tells v.old.nor.now }
+    ensures only { N.tells v.old.nor.now → OneChanges v.old.geometry page (N.bytes v.old.nor.now) (N.bytes v.new.nor.now) }
+    ensures rows { v.new.rows.now ≡ v.old.rows.now }
+    ensures used { N.tells v.old.nor.now → OnOk result (entry_of v.old.geometry (N.bytes v.new.nor.now) page ≢ 0xFFFF) }
+    ensures few { N.device_writes v.new.nor.now ≤ N.device_writes v.old.nor.now + 4 }
+{
+    program_page(v, page, kind, tag)?;
+    program_final(v, page)
+}
+
 /// Puts the page that is being built: places it, and finishes it by a fourth program, the one that makes it live. At a
 /// cut it is live or not, and all else is as it was. The page and its entry are to be erased, in a block with its magic.
+#[tactic(auto, using(flash_view::proofs::Looking::same_then))]
 pub fn put_page<N: Nor>(v: &mut View<'_, N>, page: u16, kind: Kind, tag: Tag) -> Result<(), Failed>
     requires page { IsEntryPage v.old.geometry page }
     requires id { (1 ≤ tag.id) × (tag.id ≤ 0x7FFE) }
@@ -117,8 +152,9 @@ pub fn put_page<N: Nor>(v: &mut View<'_, N>, page: u16, kind: Kind, tag: Tag) ->
     ensures counted { StandsAgain v.old v.new result }
     ensures few { N.device_writes v.new.nor.now ≤ N.device_writes v.old.nor.now + 4 }
 {
-    place(v, page, kind, tag)?;
-    finish(v, page)
+    let before = sort_before(v, page);
+    program_put(v, page, kind, tag)?;
+    recount(v, page, before?)
 }
 
 /// What `place` and `finish` leave is what the laws of a put speak of: a placed page, and the program of its

@@ -20,14 +20,14 @@ use page_layout::{data_pages, file_size};
 use table_model::Tag;
 
 // The size in bytes that a header page tells.
-pub(crate) fn size_at<N: Nor>(v: &mut View<'_, N>, header: u16) -> Result<u32, Failed>
+fn size_at<N: Nor>(v: &mut View<'_, N>, header: u16) -> Result<u32, Failed>
     requires { header < page_count v.old.geometry }
     ensures cause { OnErr result (Rose (N.faults v.old.nor.now) (N.faults v.new.nor.now)) }
     ensures looks { OnlyLooks v.old v.new }
     ensures told { N.tells v.old.nor.now → IfOk result (λ size. size ≡ size_of (page_of v.old.geometry (N.bytes v.old.nor.now) header)) }
 {
-    v.fetch(header)?;
-    Ok(file_size(v.fetched()))
+    v.hold(header)?;
+    Ok(file_size(v.held(header)))
 }
 
 // How many data pages the file of an id has by its header page.

@@ -1,9 +1,11 @@
 // Where the header page of a file is, and where its other index pages are.
-ghost use Rattle.std.specs.Prelude.{◌≡◌, ◌≢◌, ◌%◌, ◌<◌, ◌≤◌, OnErr, IfOk, IfSome, true};
+ghost use Rattle.std.specs.Prelude.{◌≡◌, ◌≢◌, ◌%◌, ◌<◌, ◌≤◌, length, OnErr, IfOk, IfSome, true};
 ghost use Rattle.std.specs.Bool.{OnTrue};
 ghost use Rattle.geometry.specs.Numbers.{page_count};
 ghost use Rattle.nor_core.specs.Count.{Rose};
+ghost use Rattle.page_layout.specs.Layout.{header_at};
 ghost use Rattle.image_model.specs.Files.{index_page};
+ghost use Rattle.image_model.specs.Headers.{size_of};
 ghost use Rattle.image_model.specs.Live.{live_at, own};
 ghost use Rattle.image_model.specs.Places.{is_entry_page as the_entry_page};
 ghost use Rattle.image_model.specs.Tidy.{IsTidy};
@@ -11,11 +13,10 @@ ghost use Rattle.flash_view.specs.Places.{IsEntryPage};
 ghost use Rattle.flash_view.specs.Same.{OnlyLooks};
 ghost use Rattle.page_renew.specs.Renewals.{IsHome};
 
-use crate::building::size_at;
 use flash_view::{View, is_entry_page};
 use geometry::Geometry;
 use nor_core::{Failed, Nor, NorState};
-use page_layout::PageHeader;
+use page_layout::{PageHeader, file_size, header_of};
 
 /// The header page of a file.
 #[derive(Clone, Copy, Debug, PartialEq, Eq)]
@@ -37,6 +38,15 @@ fn is_header_of(g: &Geometry, page: u16, head: PageHeader, id: u16) -> bool
     id != 0 && id <= 0x7FFE && head.object() == id && is_entry_page(g, page)
 }
 
+// What a header page tells: its header, and the file's size.
+fn head_and_size(page: &[u8]) -> (PageHeader, u32)
+    requires { 12 ≤ length page.now }
+    ensures head { result.0 ≡ header_at page.now }
+    ensures size { result.1 ≡ size_of page.now }
+{
+    (header_of(page), file_size(page))
+}
+
 /// The header page of the file of an id from 1 to 0x7FFE, and its size, in a tidy image; none where there is none. It is looked
 /// for first where the id's hint says.
 #[tactic(auto, using(flash_view::proofs::Looking::looks_then))]
@@ -50,11 +60,11 @@ pub fn find_home<N: Nor>(v: &mut View<'_, N>, id: u16) -> Result<Option<Found>, 
     let Some(header) = v.seek_header(id)? else {
         return Ok(None);
     };
-    let head = v.header(header)?;
+    v.hold(header)?;
+    let (head, size) = head_and_size(v.held(header));
     if !is_header_of(&v.geometry, header, head, id) {
         return Ok(None);
     }
-    let size = size_at(v, header)?;
     Ok(Some(Found { header, size }))
 }
 

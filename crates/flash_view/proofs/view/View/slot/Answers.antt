@@ -9,20 +9,20 @@ read_word-requires g c =
     let view = c.args.self.now in
     let w = in_place view.geometry c.args.block c.lookup_of-k.result c.args.i c.lookup_of-k.ensures.lookup in
     let fits : 2 * c.args.i - c.lookup_of-k.result * c.page.result + 2 ≤ view.geometry.page = rw c.page.ensures w.fits in
-    rw (c.held.ensures.len, c.in_ok-hold.ensures.looks.same.geometry) fits
+    rw (c.brought.ensures.len, c.in_ok-f.ensures.looks.same.geometry) fits
 
 pub returns-clause-told : goal.returns-clause-told
 returns-clause-told g c = λ tells.
     let view = c.args.self.now in
     let image = g.N.NorState.bytes view.nor.now in
-    let looks = c.in_ok-hold.ensures.looks in
-    let held : c.held.result.now ≡ page_of view.geometry image (c.args.block * per_block view.geometry + c.lookup_of-k.result) = rw (looks.same.geometry, looks.reads.bytes, c.lookup_page-page.ensures.page) at (c.held.ensures.bytes (looks.reads.told tells)) in
-    rw (c.read_word.ensures, c.page.ensures) (slot_read view.geometry image c.held.result.now c.args.block c.lookup_of-k.result c.args.i c.lookup_of-k.ensures.lookup held)
+    let looks = c.in_ok-f.ensures.looks in
+    let held : c.brought.result.now ≡ page_of view.geometry image (c.args.block * per_block view.geometry + c.lookup_of-k.result) = rw (looks.same.geometry, looks.reads.bytes, c.lookup_page-page.ensures.page) at (c.brought.ensures.bytes (looks.reads.told tells)) in
+    rw (c.read_word.ensures, c.page.ensures) (slot_read view.geometry image c.brought.result.now c.args.block c.lookup_of-k.result c.args.i c.lookup_of-k.ensures.lookup held)
 
 pub returns-clause-bytes : goal.returns-clause-bytes
 returns-clause-bytes g c = λ tells.
     let view = c.args.self.now in
     let image = g.N.NorState.bytes view.nor.now in
-    let looks = c.in_ok-hold.ensures.looks in
-    let held : c.held.result.now ≡ page_of view.geometry image (c.args.block * per_block view.geometry + c.lookup_of-k.result) = rw (looks.same.geometry, looks.reads.bytes, c.lookup_page-page.ensures.page) at (c.held.ensures.bytes (looks.reads.told tells)) in
-    slot_small view.geometry image c.held.result.now c.args.block c.lookup_of-k.result c.args.i c.lookup_of-k.ensures.lookup held c.held.ensures.small
+    let looks = c.in_ok-f.ensures.looks in
+    let held : c.brought.result.now ≡ page_of view.geometry image (c.args.block * per_block view.geometry + c.lookup_of-k.result) = rw (looks.same.geometry, looks.reads.bytes, c.lookup_page-page.ensures.page) at (c.brought.ensures.bytes (looks.reads.told tells)) in
+    slot_small view.geometry image c.brought.result.now c.args.block c.lookup_of-k.result c.args.i c.lookup_of-k.ensures.lookup held c.brought.ensures.small

@@ -33,18 +33,18 @@ pub returns-in-Some-clause-told : goal.returns-in-Some-clause-told
 returns-in-Some-clause-told g c = λ tells.
     let view = c.args.self.now in
     let image = g.N.NorState.bytes view.nor.now in
-    let looks = c.in_ok-hold.ensures.looks in
+    let looks = c.in_ok-f.ensures.looks in
     let half : c.page-slots.result / 2 ≡ view.geometry.page / 2 = omega (arith, c.page-slots.ensures) in
     let w = in_lookup view.geometry (c.page-slots.result / 2) c.args.k c.args.at half c.requires.lookup in
-    let is : c.held.result.now ≡ page_of view.geometry image (c.args.block * per_block view.geometry + c.args.k) = rw (looks.same.geometry, looks.reads.bytes, c.lookup_page-page.ensures.page) at (c.held.ensures.bytes (looks.reads.told tells)) in
-    found_in view.geometry image c.args.low c.args.high (c.page-slots.result / 2) c.args.block c.args.k c.args.at c.min-end.result c.in-Some.i c.in-Some.entry c.held.result.now half is c.held.ensures.small (omega (arith, c.min-end.ensures)) w.low c.in-Some.ensures.found c.in-Some.ensures.passed
+    let is : c.brought.result.now ≡ page_of view.geometry image (c.args.block * per_block view.geometry + c.args.k) = rw (looks.same.geometry, looks.reads.bytes, c.lookup_page-page.ensures.page) at (c.brought.ensures.bytes (looks.reads.told tells)) in
+    found_in view.geometry image c.args.low c.args.high (c.page-slots.result / 2) c.args.block c.args.k c.args.at c.min-end.result c.in-Some.i c.in-Some.entry c.brought.result.now half is c.brought.ensures.small (omega (arith, c.min-end.ensures)) w.low c.in-Some.ensures.found c.in-Some.ensures.passed
 
 pub returns-in-None-clause-told : goal.returns-in-None-clause-told
 returns-in-None-clause-told g c = λ tells.
     let view = c.args.self.now in
     let image = g.N.NorState.bytes view.nor.now in
-    let looks = c.in_ok-hold.ensures.looks in
+    let looks = c.in_ok-f.ensures.looks in
     let half : c.page-slots.result / 2 ≡ view.geometry.page / 2 = omega (arith, c.page-slots.ensures) in
     let w = in_lookup view.geometry (c.page-slots.result / 2) c.args.k c.args.at half c.requires.lookup in
-    let is : c.held.result.now ≡ page_of view.geometry image (c.args.block * per_block view.geometry + c.args.k) = rw (looks.same.geometry, looks.reads.bytes, c.lookup_page-page.ensures.page) at (c.held.ensures.bytes (looks.reads.told tells)) in
-    none_in view.geometry image c.args.low c.args.high (c.page-slots.result / 2) c.args.block c.args.k c.args.at c.min-end.result (entries view.geometry) c.held.result.now half is c.held.ensures.small (omega (arith, c.min-end.ensures, c.entries.ensures.count)) w.low c.in-None.ensures.passed
+    let is : c.brought.result.now ≡ page_of view.geometry image (c.args.block * per_block view.geometry + c.args.k) = rw (looks.same.geometry, looks.reads.bytes, c.lookup_page-page.ensures.page) at (c.brought.ensures.bytes (looks.reads.told tells)) in
+    none_in view.geometry image c.args.low c.args.high (c.page-slots.result / 2) c.args.block c.args.k c.args.at c.min-end.result (entries view.geometry) c.brought.result.now half is c.brought.ensures.small (omega (arith, c.min-end.ensures, c.entries.ensures.count)) w.low c.in-None.ensures.passed
