@@ -7,6 +7,7 @@ use nor_memory::{CallKind, MemBoard, MemSource};
 use std::alloc::{AllocError, Global};
 use tool_core::spiffs_tool;
 use tool_parts::Buffers;
+use trace_tool::trace_tool;
 use vol_mount::format;
 
 /// How much memory a command is lent, in bytes and slots.
@@ -173,7 +174,11 @@ impl Bench {
     ) -> Result<u8, Trouble> {
         let words = words_of(self.alloc, words)?;
         let mut loan = self.loan()?;
-        Ok(spiffs_tool(&words, board, script, folder, &mut loan.bufs()))
+        let mut bufs = loan.bufs();
+        if words.first().is_some_and(|word| word.as_str() == "trace") {
+            return Ok(trace_tool(self.alloc, &words, board, script, &mut bufs).status);
+        }
+        Ok(spiffs_tool(&words, board, script, folder, &mut bufs))
     }
 
     /// What the command of these words does on a device that holds an image, by the calls of a script and over a folder, where

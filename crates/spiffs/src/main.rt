@@ -8,6 +8,7 @@ mod copying;
 mod detect;
 mod help;
 mod look;
+mod trace;
 mod usage;
 mod words;
 
@@ -27,8 +28,9 @@ use std::rt::Env;
 use std::{env, fs, io};
 use tool_core::{is_accepted, spiffs_tool};
 use tool_parts::{Buffers, chip_size_of, unit_of};
+use trace::trace_on;
 use usage::wrong_word;
-use words::{FOLDER_WORD, chip_word, detects, repairs, word};
+use words::{FOLDER_WORD, chip_word, detects, repairs, traces, word};
 
 /// The status where the words are no command.
 const USAGE: u8 = 1;
@@ -156,7 +158,7 @@ impl From<MemErr> for Refusal {
 // makes them, where the words, the chips and the lent memory are taken.
 fn access_of(words: &[String], is_taken: bool) -> Access {
     match word(words, 0) {
-        "list" | "extract" => Access::Read,
+        "list" | "extract" | "trace" => Access::Read,
         "soak" | "make" if is_taken => Access::Create,
         _ => Access::Write,
     }
@@ -333,6 +335,9 @@ fn run(
         return Ok(OTHER_META);
     }
     let mut script = StdSource::new(rt.stdin());
+    if traces(words) {
+        return Ok(trace_on(rt, words, &mut board, &mut script, &mut bufs));
+    }
     let mut folder = folder_of(rt, words)?;
     let status = spiffs_tool(words, &mut board, &mut script, &mut folder, &mut bufs);
     match status {

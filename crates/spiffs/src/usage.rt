@@ -60,7 +60,7 @@ impl fmt::Display for Wrong<'_> {
 // The words that a command takes behind its name, and how many they are.
 fn form_of(verb: &str) -> Option<(&'static str, usize)> {
     match verb {
-        "run" | "list" | "check" => Some(("PAGE BLOCK BLOCKS META MAGIC CHIP", 6)),
+        "run" | "list" | "check" | "trace" => Some(("PAGE BLOCK BLOCKS META MAGIC CHIP", 6)),
         "extract" | "make" => Some(("PAGE BLOCK BLOCKS META MAGIC CHIP FOLDER", 7)),
         "soak" => Some(("PAGE BLOCK BLOCKS META MAGIC CHIP SEED COUNT", 8)),
         "scrub" => Some(("PAGE BLOCK BLOCKS META MAGIC CHIP LIMIT", 7)),

@@ -32,6 +32,11 @@ pub fn detects(words: &[String]) -> bool {
     word(words, 0) == "detect"
 }
 
+/// Whether the words are to trace a run of a script.
+pub fn traces(words: &[String]) -> bool {
+    word(words, 0) == "trace"
+}
+
 /// The word with the chip files' names.
 pub fn chip_word(words: &[String]) -> &str {
     if detects(words) {

@@ -4,7 +4,7 @@ use crate::plain::{Plain, WORKING, Wanted, copied, has_room_for, is_done, is_par
 use crate::runs::{Fault, copy, files_of, image_of, wanted};
 use liverymenhir::geometry::{Geometry, MagicKind};
 use spiffs::vol_copy::CopyErr;
-use script_rows::nor_memory::CallKind;
+use spiffs::nor_memory::CallKind;
 
 fn geometry(page: u32, block: u32, blocks: u32, meta: u32) -> Geometry {
     Geometry::new(page, block, blocks, 1024.min(block), meta, MagicKind::Length).expect("a geometry")

@@ -7,7 +7,7 @@ use liverymenhir::vol_mount::Reader;
 use liverymenhir::volume::Volume;
 use rattle_host::alloc::Global;
 use rattle_host::prelude::*;
-use script_rows::nor_memory::{CallKind, MemChip};
+use spiffs::nor_memory::{CallKind, MemChip};
 use spiffs::chip_row::ChipRow;
 use spiffs::vol_copy::{Copied, CopyErr, copy_all};
 

@@ -10,7 +10,7 @@ use spiffs::vol_copy::{Copied, CopyErr, copy_all};
 use rattle_host::alloc::Global;
 use rattle_host::prelude::*;
 use std::vec::Vec;
-use script_rows::nor_memory::{CallKind, MemBoard};
+use spiffs::nor_memory::{CallKind, MemBoard};
 
 /// Memory for one volume.
 pub(crate) struct Memory {

@@ -9,7 +9,7 @@ use rattle_host::alloc::Global;
 use rattle_host::prelude::*;
 use rattle_host::test::Fail;
 use rattle_host::vec;
-use script_rows::nor_memory::MemBoard;
+use spiffs::nor_memory::MemBoard;
 
 /// A device with these bytes, in the erase units of the volume.
 pub(crate) fn board_of(alloc: Global, g: &Geometry, image: &[u8]) -> Result<MemBoard, Fail> {

@@ -1,8 +1,8 @@
 //! The numbers of a map, beside the data pages that a look at the whole chip finds.
 use liverymenhir::geometry::Geometry;
 use liverymenhir::volume::Volume;
-use script_rows::nor_memory::MemBoard;
 use spiffs::image_plain::{holds_volume, index_page, own, size_of};
+use spiffs::nor_memory::MemBoard;
 
 // The number of two bytes, the lower one first.
 fn word(bytes: &[u8], at: usize) -> u32 {

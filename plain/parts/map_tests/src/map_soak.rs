@@ -15,7 +15,7 @@ use rattle_host::prelude::*;
 use rattle_host::process::Abort;
 use rattle_host::test::Fail;
 use rattle_host::vec;
-use script_rows::nor_memory::MemBoard;
+use spiffs::nor_memory::MemBoard;
 
 // The names that are drawn. The last one is only given by a rename, and by an opening of it.
 const NAMES: [&[u8]; 4] = [b"a", b"b", b"c", b"d"];

@@ -12,7 +12,7 @@ use rattle_host::assert;
 #[allow(unused_imports)]
 use rattle_host::prelude::*;
 use rattle_host::test::Fail;
-use script_rows::nor_memory::CallKind;
+use spiffs::nor_memory::CallKind;
 
 // No number, for a span that the file doesn't have.
 const NONE: u16 = 0xFFFF;

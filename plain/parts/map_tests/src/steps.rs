@@ -12,7 +12,7 @@ use rattle_host::assert;
 use rattle_host::prelude::*;
 use rattle_host::process::Abort;
 use rattle_host::test::Fail;
-use script_rows::nor_memory::{CallKind, MemBoard};
+use spiffs::nor_memory::{CallKind, MemBoard};
 
 /// A call of a volume, or a look at it, and what it is to tell.
 #[derive(Clone, Copy)]

@@ -1,7 +1,7 @@
 //! Events written by hand, which no run makes.
 
 use crate::traces::{Noted, Trial, bad_cut, formatted, legal, program, say, small, volume};
-use plain_tests::flash_trace::Verdict;
+use spiffs::flash_trace::Verdict;
 
 const OUTSIDE: Verdict = Verdict::Outside { at: 0 };
 const WRONG_BITS: Verdict = Verdict::WrongBits { at: 0 };

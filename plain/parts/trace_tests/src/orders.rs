@@ -3,7 +3,7 @@
 use crate::traces::{
     Noted, Told, Trial, bad_cut, formatted, image_after, legal, program, say, small,
 };
-use plain_tests::flash_trace::Verdict;
+use spiffs::flash_trace::Verdict;
 
 // A run over what another one left, both with every line done.
 fn run_over(first: &[u8], script: &str) -> (Trial, Told) {

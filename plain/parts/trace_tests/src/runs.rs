@@ -4,10 +4,10 @@ use crate::traces::{Noted, Trial, bad_cut, formatted, image_after, legal, volume
 use liverymenhir::geometry::Geometry;
 
 // Numbers that are drawn from a seed.
-struct Draw(u64);
+pub(crate) struct Draw(pub(crate) u64);
 
 impl Draw {
-    fn next(&mut self, below: u64) -> u64 {
+    pub(crate) fn next(&mut self, below: u64) -> u64 {
         self.0 ^= self.0 << 13;
         self.0 ^= self.0 >> 7;
         self.0 ^= self.0 << 17;
@@ -50,12 +50,12 @@ impl Draw {
         }
     }
 
-    fn script(&mut self, lines: usize) -> String {
+    pub(crate) fn script(&mut self, lines: usize) -> String {
         (0..lines).map(|_| self.line() + "\n").collect()
     }
 
     // Some bytes of an image are changed.
-    fn damage(&mut self, g: &Geometry, image: &mut [u8]) {
+    pub(crate) fn damage(&mut self, g: &Geometry, image: &mut [u8]) {
         for _ in 0..self.next(4) {
             let page =
                 self.next(u64::from(g.blocks() * g.block() / g.page())) * u64::from(g.page());
@@ -65,7 +65,7 @@ impl Draw {
     }
 }
 
-const VOLUMES: [(u32, u32, u32, u32); 3] =
+pub(crate) const VOLUMES: [(u32, u32, u32, u32); 3] =
     [(256, 4096, 16, 0), (256, 4096, 5, 4), (128, 2048, 8, 8)];
 
 #[test]

@@ -3,13 +3,14 @@
 use liverymenhir::fd_table::FdSlot;
 use liverymenhir::geometry::{Geometry, MagicKind};
 use liverymenhir::vol_mount::format;
-use plain_tests::flash_trace::{Bytes, Event, HeldScript, Recorder, Verdict, check_trace};
 use rattle_host::alloc::Global;
 use rattle_host::prelude::{String as HostString, Vec as HostVec};
-use script_rows::nor_memory::MemBoard;
+use spiffs::flash_trace::{Bytes, Event, HeldScript, Recorder, Verdict, check_trace};
 use spiffs::folder_core::MemFolder;
+use spiffs::nor_memory::{CallKind, MemBoard, MemSource};
 use spiffs::tool_core::spiffs_tool;
 use spiffs::tool_parts::Buffers;
+use spiffs::trace_tool::{Traced, trace_tool};
 
 /// How many descriptors the runs have.
 pub(crate) const SLOTS: usize = 3;
@@ -24,6 +25,21 @@ pub(crate) enum Noted {
     },
     Erase(u32),
     Say(Vec<u8>),
+}
+
+/// What the command `trace` did on a chip.
+pub(crate) struct Rehearsed {
+    pub(crate) status: u8,
+    pub(crate) run: Option<u8>,
+    pub(crate) said: String,
+}
+
+/// What is to fail in it: a call of the chip, or a read of the script.
+#[derive(Clone, Copy)]
+pub(crate) enum Fault {
+    Nothing,
+    Call(CallKind, u64),
+    Script(u64),
 }
 
 /// What a run of a script did on an image.
@@ -124,6 +140,37 @@ fn words_of(g: &Geometry, command: &str) -> Vec<HostString> {
         .collect()
 }
 
+// The memory that a command is lent.
+struct Lent {
+    work: Vec<u8>,
+    slots: Vec<FdSlot>,
+    cache: Vec<u8>,
+    check: Vec<u8>,
+    line: Vec<u8>,
+}
+
+impl Lent {
+    fn new(g: &Geometry) -> Lent {
+        Lent {
+            work: vec![0u8; g.work_need() as usize],
+            slots: vec![FdSlot::empty(); SLOTS],
+            cache: vec![0u8; g.cache_need() as usize * 64],
+            check: vec![0u8; g.check_need() as usize],
+            line: vec![0u8; 12288],
+        }
+    }
+
+    fn buffers(&mut self) -> Buffers<'_> {
+        Buffers {
+            work: &mut self.work,
+            slots: &mut self.slots,
+            cache: &mut self.cache,
+            check: &mut self.check,
+            line: &mut self.line,
+        }
+    }
+}
+
 impl Trial {
     pub(crate) fn new(g: Geometry, first: &[u8], script: &str) -> Trial {
         Trial {
@@ -138,21 +185,16 @@ impl Trial {
         let g = &self.g;
         let mut recorder = Recorder::new(Global, board_of(g, &self.first));
         let mut source = HeldScript::new(host_bytes(&self.script));
-        let mut work = vec![0u8; g.work_need() as usize];
-        let mut slots = vec![FdSlot::empty(); SLOTS];
-        let mut cache = vec![0u8; g.cache_need() as usize * 64];
-        let mut check = vec![0u8; g.check_need() as usize];
-        let mut line = vec![0u8; 12288];
-        let mut bufs = Buffers {
-            work: &mut work,
-            slots: &mut slots,
-            cache: &mut cache,
-            check: &mut check,
-            line: &mut line,
-        };
+        let mut lent = Lent::new(g);
         let mut folder = MemFolder::new(Global);
         let words = words_of(g, "run");
-        let status = spiffs_tool(&words, &mut recorder, &mut source, &mut folder, &mut bufs);
+        let status = spiffs_tool(
+            &words,
+            &mut recorder,
+            &mut source,
+            &mut folder,
+            &mut lent.buffers(),
+        );
         assert!(!recorder.has_failed());
         Told {
             status,
@@ -160,6 +202,33 @@ impl Trial {
             image: recorder.image().to_vec(),
             events: recorder.events().iter().map(noted).collect(),
         }
+    }
+
+    /// What the command `trace` does on a chip with these bytes behind the volume, which it leaves as it is.
+    pub(crate) fn trace_with(&self, behind: &[u8], fault: Fault) -> Rehearsed {
+        let g = &self.g;
+        let chip = [&self.first[..], behind].concat();
+        let mut board = board_of(g, &chip);
+        let mut source = MemSource::new(host_bytes(&self.script));
+        match fault {
+            Fault::Nothing => {}
+            Fault::Call(kind, nth) => board.fail_nth(kind, nth),
+            Fault::Script(nth) => source.fail_nth(nth),
+        }
+        let mut lent = Lent::new(g);
+        let words = words_of(g, "trace");
+        let Traced { status, run } =
+            trace_tool(Global, &words, &mut board, &mut source, &mut lent.buffers());
+        assert_eq!(board.image(), chip);
+        Rehearsed {
+            status,
+            run,
+            said: String::from_utf8(board.said().to_vec()).expect("text"),
+        }
+    }
+
+    pub(crate) fn trace(&self) -> Rehearsed {
+        self.trace_with(&[], Fault::Nothing)
     }
 
     /// The verdict on these events, for so many descriptors.

@@ -1,0 +1,9 @@
+pub mod Boundaries
+pub mod Sizes
+pub mod Verdicts
+pub mod Lawful
+pub mod Judged
+pub mod Taking
+pub mod Running
+pub mod Tracing
+pub mod Early

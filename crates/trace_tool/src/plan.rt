@@ -1,0 +1,47 @@
+//! The words of the command, and what is refused before the chip is read.
+ghost use Rattle.std.specs.Prelude.{◌≡◌, map, string_bytes, IfOk, IfErr, OnOk, Some, None};
+ghost use Rattle.tool_parts.specs.Asked.{asked_by};
+ghost use Rattle.tool_parts.specs.Fits.{IsFitting, HasLengths};
+ghost use Rattle.trace_tool.specs.Words.{has_form as the_has_form, numbers_of as the_numbers_of};
+ghost use Rattle.trace_tool.specs.Planned.{refusal_of, IsPlanned};
+
+use geometry::Geometry;
+use tool_parts::{Ending, Lengths, Numbers, read_numbers, with_room, word, written_geometry};
+
+// Whether the words are `trace PAGE BLOCK BLOCKS META MAGIC CHIP`, but for the numbers. CHIP is any word that isn't empty.
+fn has_form(words: &[String]) -> bool
+    ensures { result ≡ the_has_form (map string_bytes words.now) }
+{
+    words.len() == 7 && word(words, 0) == b"trace".as_slice() && !word(words, 6).is_empty()
+}
+
+// The numbers of the volume, where the words are the command.
+fn numbers_of(words: &[String]) -> Option<Numbers>
+    ensures { result ≡ the_numbers_of (map string_bytes words.now) }
+{
+    if !has_form(words) {
+        return None;
+    }
+    read_numbers(words)
+}
+
+/// The geometry of the volume that the words spell, on a device of that erase unit and size in bytes, or how the command ends. What is refused
+/// is what `run` refuses.
+#[tactic(auto, unfolding(crate::specs::Planned::refusal_of))]
+pub(crate) fn plan(
+    words: &[String],
+    unit: u32,
+    size: u32,
+    lent: &Lengths,
+) -> Result<Geometry, Ending>
+    ensures refused { IfErr result (λ ending. refusal_of (asked_by (map string_bytes words.now) unit size lent.now) ≡ Some ending) }
+    ensures accepted { OnOk result (refusal_of (asked_by (map string_bytes words.now) unit size lent.now) ≡ None) }
+    ensures fits { IfOk result (λ g. IsFitting g unit size) }
+    ensures room { IfOk result (λ g. HasLengths g lent.now) }
+    ensures planned { IfOk result (IsPlanned (asked_by (map string_bytes words.now) unit size lent.now)) }
+{
+    let Some(numbers) = numbers_of(words) else {
+        return Err(Ending::Usage);
+    };
+    with_room(written_geometry(numbers, unit, size), lent)
+}
