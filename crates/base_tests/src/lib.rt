@@ -28,4 +28,6 @@ mod moments;
 #[cfg(test)]
 mod numbers;
 #[cfg(test)]
+mod promises;
+#[cfg(test)]
 mod shares;

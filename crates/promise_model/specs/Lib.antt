@@ -3,3 +3,4 @@ pub mod Promises
 pub mod Places
 pub mod Laws
 pub mod Verdicts
+pub mod Texts

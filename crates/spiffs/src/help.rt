@@ -48,6 +48,10 @@ spiffs: a SPIFFS 0.3.7 flash volume in a chip file, or in several end to end
       runs the script on a copy of the volume in memory, and has each program,
       erase and reply of that run judged; writes nothing
       spiffs trace 256 4096 16 0 len chip < script
+  spiffs rehearse PAGE BLOCK BLOCKS META MAGIC CHIP [tables] < SCRIPT
+      tells whether each table of files that a power cut in the script may leave
+      keeps the promises of its comments; with `tables` each; writes nothing
+      spiffs rehearse 256 4096 16 0 len chip < script
   spiffs --force run .. | check .. | scrub .. | map .. | copy ..
       goes on where another META reads more whole files
   spiffs --help | --version
@@ -116,6 +120,11 @@ file, -10030 and -10023 the file is there, -10022 the descriptor does not read,
 -10021 it does not write, -11002 the place is not in the file, -11003 fewer than
 two blocks are free, -10001 the volume is full.
 
+Promises are comments of a script for rehearse. `#! first NAME NAME ..`: up to
+a line `#! end` the first of these files that is there has the bytes that it has
+here, or those that it has at the end. `#! some NAME NAME ..`: one of these is
+there. `#! kept NAME`: it is there with the bytes that it has here.
+
 A list is a line `ID TYPE SIZE NAME` for each file, then for each damaged id
 `damaged ID span S`, `damaged ID name` or `damaged ID same ID2`.
 
@@ -131,6 +140,9 @@ that did what was asked, those that were refused, files and bytes in the end.
 
 A scrub is a line `moved N free F`: blocks whose files were moved, and that
 were erased, and free blocks in the end.
+
+A rehearsal is a line `promises P tables T`: promises, and the tables that keep
+them; or the files of a table that breaks one, then its promise, line and step.
 
 A map is a line `SPAN PAGE` for each data page of the file, at most 4096: its
 number in the file, from 0, and the page of the volume that holds it.
@@ -160,7 +172,8 @@ holds no volume; 20 a volume of more than 131072 bytes, or a script of more than
 16384, is not traced; 21 a page does not read as it was written; 22 the chips
 make no row, or a copy's volumes share one; 23 `run`, `check`, `scrub`,
 `map` or `copy`: ids are damaged on the volume that is written, and another META
-reads more whole files, nothing was written. Standard error tells more of
-statuses 1, 3, 4, 7, 8, 9, 13, 18, 22 and 23, what a traced run ended with, what
-`make` passed over, and how many damaged files were removed.
+ reads more whole files, nothing was written; 24 a promise is broken. Standard
+ error tells more of statuses 1, 3, 4, 7, 8, 9, 13, 18, 22 and 23, what a traced
+ run ended with, what `make` passed over, and how many damaged files were
+ removed.
 ";

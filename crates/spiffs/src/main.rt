@@ -20,6 +20,7 @@ use help::{HELP, VERSION};
 use host_edge::{Access, FileChip, StdBoard, StdFolder, StdSource, Trouble};
 use look::{Seen, look_before};
 use nor_core::{Failed, MemErr};
+use rehearse_tool::rehearse_tool;
 use std::alloc::{AllocError, Global};
 use std::fs::File;
 use std::io::Write;
@@ -158,7 +159,7 @@ impl From<MemErr> for Refusal {
 // makes them, where the words, the chips and the lent memory are taken.
 fn access_of(words: &[String], is_taken: bool) -> Access {
     match word(words, 0) {
-        "list" | "extract" | "trace" => Access::Read,
+        "list" | "extract" | "trace" | "rehearse" => Access::Read,
         "soak" | "make" if is_taken => Access::Create,
         _ => Access::Write,
     }
@@ -339,7 +340,10 @@ fn run(
         return Ok(trace_on(rt, words, &mut board, &mut script, &mut bufs));
     }
     let mut folder = folder_of(rt, words)?;
-    let status = spiffs_tool(words, &mut board, &mut script, &mut folder, &mut bufs);
+    let status = match word(words, 0) {
+        "rehearse" => rehearse_tool(rt.alloc(), words, &mut board, &mut script, &mut bufs),
+        _ => spiffs_tool(words, &mut board, &mut script, &mut folder, &mut bufs),
+    };
     match status {
         BOARD_FAULT => explain_board(rt, words, &board),
         SCRIPT_FAULT => explain(rt, script.trouble()),

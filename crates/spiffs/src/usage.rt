@@ -61,6 +61,7 @@ impl fmt::Display for Wrong<'_> {
 fn form_of(verb: &str) -> Option<(&'static str, usize)> {
     match verb {
         "run" | "list" | "check" | "trace" => Some(("PAGE BLOCK BLOCKS META MAGIC CHIP", 6)),
+        "rehearse" => Some(("PAGE BLOCK BLOCKS META MAGIC CHIP and tables or nothing", 6)),
         "extract" | "make" => Some(("PAGE BLOCK BLOCKS META MAGIC CHIP FOLDER", 7)),
         "soak" => Some(("PAGE BLOCK BLOCKS META MAGIC CHIP SEED COUNT", 8)),
         "scrub" => Some(("PAGE BLOCK BLOCKS META MAGIC CHIP LIMIT", 7)),
@@ -157,7 +158,8 @@ pub fn wrong_word(words: &[String]) -> Option<Wrong<'_>> {
         return Some(Wrong::Verb(verb));
     };
     let given = words.len() - 1;
-    if given != count {
+    let is_longer = verb == "rehearse" && given == 7 && word(words, 7) == "tables";
+    if given != count && !is_longer {
         return Some(Wrong::Count { verb, form, given });
     }
     if !detects(words) {

@@ -1,0 +1,106 @@
+-- What a rehearsal on an image comes to, from what it found.
+use Rattle.std.proofs.Common.{◌≡◌, ◌≢◌, ◌⊎◌, ℕ, ◌<◌, List, length, ap, subst, refl, sym, ◌∙◌, arith, inl, inr, ⊎_elim, Bool, Option, Some, None, Result, Ok, Err}
+use Rattle.std.specs.Prelude.{replicate}
+use Rattle.geometry.specs.declared.geometry.Geometry.{Geometry}
+use Rattle.table_model.specs.Table.{State}
+use Rattle.image_model.specs.Tables.{table_of}
+use Rattle.tool_parts.specs.declared.ending.Ending.{Ending}
+use Rattle.tool_parts.specs.declared.ending.Ending.TheVariants.{NotAFs, Mixed, BoardFault, SourceFault, TooLong}
+use Rattle.image_model.specs.Kinds.{spoiled_blocks}
+use Rattle.image_model.specs.Shared.{shared_blocks}
+use Rattle.promise_model.specs.Verdicts.{Told, IsFaulty, MayBeTight, AllKept, NotKept}
+use Rattle.tool_parts.specs.Closing.{status_of}
+use Rattle.tool_parts.specs.Later.{IsLaterStatus}
+use Rattle.tool_parts.specs.Refusals.{check_refusal}
+use Rattle.tool_parts.proofs.Refusals.{refusal_is}
+use Rattle.rehearse_tool.specs.declared.input.Stop.{Stop}
+use Rattle.rehearse_tool.specs.declared.input.Stop.TheVariants.{Ends, NoMemory}
+use Rattle.rehearse_tool.specs.declared.answer.Answer.{Answer}
+use Rattle.rehearse_tool.specs.Outcomes.{IsJudged, IsStop, IsVerdictOn, IsRefusedBy, ComesTo, stop_status}
+use Rattle.rehearse_tool.specs.Texts.{verdict_status}
+
+-- the volume of an image, with so many descriptors
+abbrev pub volume_with : Geometry → List ℕ → ℕ → State
+volume_with g image slots = record { table = table_of g image; slots = replicate slots None }
+
+-- a verdict, on what was read
+pub comes_ok : (g : Geometry) (tables : Bool) (slots : ℕ) (image bytes text script : List ℕ) (answer : Answer) → image ≡ bytes → text ≡ script → check_refusal g image ≡ None → IsJudged g tables (volume_with g image slots) text answer.text.items answer.status
+    → ComesTo g tables (volume_with g bytes slots) bytes script (Ok answer)
+comes_ok g tables slots image bytes text script answer read whole taken judged =
+    subst (λ (i : List ℕ). IsVerdictOn g tables (volume_with g i slots) i script answer.text.items answer.status) read
+    (subst (λ (t : List ℕ). IsVerdictOn g tables (volume_with g image slots) image t answer.text.items answer.status) whole (record { taken = taken; judged = judged }))
+
+-- an image that isn't taken
+pub comes_refused : (g : Geometry) (image bytes script : List ℕ) (stop : Stop) → image ≡ bytes → IsRefusedBy (check_refusal g image) stop → IsStop g bytes script stop
+comes_refused g image bytes script NoMemory read why = tt {0}
+comes_refused g image bytes script (Ends ending) read why = inl (ap (check_refusal g) (sym read) ∙ why)
+
+-- a chip that can't be read, or no memory for it
+pub comes_unread : {R : Type 0} (g : Geometry) (image script : List ℕ) (stop : Stop) → (stop ≡ NoMemory) ⊎ ((stop ≡ Ends BoardFault) × R) → IsStop g image script stop
+comes_unread g image script stop why = ⊎_elim
+    (λ (none : stop ≡ NoMemory). subst (IsStop g image script) (sym none) (tt {0}))
+    (λ fault. subst (IsStop g image script) (sym fault.0) (inr (inr (inl refl))))
+    why
+
+-- a script that is too long or can't be read, or no memory for it
+pub comes_unscripted : {R : Type 0} (g : Geometry) (image script : List ℕ) (stop : Stop) → (stop ≡ Ends TooLong → 16777216 < length script) → (stop ≡ NoMemory) ⊎ ((stop ≡ Ends TooLong) ⊎ ((stop ≡ Ends SourceFault) × R)) → IsStop g image script stop
+comes_unscripted g image script stop long why = ⊎_elim
+    (λ (none : stop ≡ NoMemory). subst (IsStop g image script) (sym none) (tt {0}))
+    (λ more. ⊎_elim
+    (λ (is : stop ≡ Ends TooLong). subst (IsStop g image script) (sym is) (inr (inl (refl, long is))))
+    (λ fault. subst (IsStop g image script) (sym fault.0) (inr (inr (inr refl))))
+    more)
+    why
+
+-- ---- the statuses
+
+later_by : (status n : ℕ) → status ≡ n → (n ≢ 1) × (n ≢ 2) × (n ≢ 10) → IsLaterStatus status
+later_by status n is not = record { no_usage = λ e. not.0 (sym is ∙ e); no_geometry = λ e. not.1 (sym is ∙ e); no_short = λ e. not.2 (sym is ∙ e) }
+
+pub later_unread : {R : Type 0} (stop : Stop) → (stop ≡ NoMemory) ⊎ ((stop ≡ Ends BoardFault) × R) → IsLaterStatus (stop_status stop)
+later_unread stop why = ⊎_elim
+    (λ (none : stop ≡ NoMemory). later_by (stop_status stop) 15 (ap stop_status none) (λ e. omega (arith, e), λ e. omega (arith, e), λ e. omega (arith, e)))
+    (λ fault. later_by (stop_status stop) 7 (ap stop_status fault.0) (λ e. omega (arith, e), λ e. omega (arith, e), λ e. omega (arith, e)))
+    why
+
+pub later_unscripted : {R : Type 0} (stop : Stop) → (stop ≡ NoMemory) ⊎ ((stop ≡ Ends TooLong) ⊎ ((stop ≡ Ends SourceFault) × R)) → IsLaterStatus (stop_status stop)
+later_unscripted stop why = ⊎_elim
+    (λ (none : stop ≡ NoMemory). later_by (stop_status stop) 15 (ap stop_status none) (λ e. omega (arith, e), λ e. omega (arith, e), λ e. omega (arith, e)))
+    (λ more. ⊎_elim
+    (λ (is : stop ≡ Ends TooLong). later_by (stop_status stop) 11 (ap stop_status is) (λ e. omega (arith, e), λ e. omega (arith, e), λ e. omega (arith, e)))
+    (λ fault. later_by (stop_status stop) 8 (ap stop_status fault.0) (λ e. omega (arith, e), λ e. omega (arith, e), λ e. omega (arith, e)))
+    more)
+    why
+
+pub later_refused : (g : Geometry) (image : List ℕ) (stop : Stop) → IsRefusedBy (check_refusal g image) stop → IsLaterStatus (stop_status stop)
+later_refused g image NoMemory why = later_by 15 15 refl (λ e. omega (arith, e), λ e. omega (arith, e), λ e. omega (arith, e))
+later_refused g image (Ends ending) why = ⊎_elim
+    (λ (e : ending ≡ NotAFs (spoiled_blocks g image)). later_by (status_of ending) 3 (ap status_of e) (λ e. omega (arith, e), λ e. omega (arith, e), λ e. omega (arith, e)))
+    (λ (e : ending ≡ Mixed (shared_blocks g image)). later_by (status_of ending) 4 (ap status_of e) (λ e. omega (arith, e), λ e. omega (arith, e), λ e. omega (arith, e)))
+    (refusal_is g image ending why)
+
+later_told : (told : Told) (status : ℕ) → status ≡ verdict_status told → IsLaterStatus status
+later_told (IsFaulty f) status is = later_by status 5 is (λ e. omega (arith, e), λ e. omega (arith, e), λ e. omega (arith, e))
+later_told (MayBeTight line) status is = later_by status 14 is (λ e. omega (arith, e), λ e. omega (arith, e), λ e. omega (arith, e))
+later_told (AllKept promises tables) status is = later_by status 0 is (λ e. omega (arith, e), λ e. omega (arith, e), λ e. omega (arith, e))
+later_told (NotKept b) status is = later_by status 24 is (λ e. omega (arith, e), λ e. omega (arith, e), λ e. omega (arith, e))
+
+-- what is told of a script is later too
+pub later_judged : (g : Geometry) (tables : Bool) (s : State) (script text : List ℕ) (status : ℕ) → IsJudged g tables s script text status → IsLaterStatus status
+later_judged g tables s script text status judged = later_told judged.told status judged.status_is
+
+-- where a status is that of a fault, the fault was one
+pub fault_unread : {R : Type 0} (stop : Stop) → (stop ≡ NoMemory) ⊎ ((stop ≡ Ends BoardFault) × R) → stop_status stop ≡ 7 → R
+fault_unread stop why is = ⊎_elim
+    (λ (none : stop ≡ NoMemory). let s : stop_status stop ≡ 15 = ap stop_status none in absurd (omega (arith, s, is)))
+    (λ fault. fault.1)
+    why
+
+pub fault_unscripted : {R : Type 0} (stop : Stop) → (stop ≡ NoMemory) ⊎ ((stop ≡ Ends TooLong) ⊎ ((stop ≡ Ends SourceFault) × R)) → stop_status stop ≡ 8 → R
+fault_unscripted stop why is = ⊎_elim
+    (λ (none : stop ≡ NoMemory). let s : stop_status stop ≡ 15 = ap stop_status none in absurd (omega (arith, s, is)))
+    (λ more. ⊎_elim
+    (λ (long : stop ≡ Ends TooLong). let s : stop_status stop ≡ 11 = ap stop_status long in absurd (omega (arith, s, is)))
+    (λ fault. fault.1)
+    more)
+    why
