@@ -115,15 +115,16 @@ record Breaks (ps : List Promise) (t : List File) (line : ℕ) : Type 0 where
   others : List Promise
   promises_are : ps ≡ given ++ (promise ∷ others)
   promise_is : line ≡ promise.line
+  kept_given : All (λ p. Keeps p t) given
   broken : Keeps promise t → ⊥
 
 breaks : (ps : List Promise) (t : List File) (line : ℕ) → Finds ps t (Some line) → Breaks ps t line
 unfolding Finds
 breaks [] t line f = absurd (none_some line (sym f))
-breaks (p ∷ ps) t line (inl f) = record { given = []; promise = p; others = ps; promises_are = refl; promise_is = same_Some line p.line f.1; broken = f.0 }
+breaks (p ∷ ps) t line (inl f) = record { given = []; promise = p; others = ps; promises_are = refl; promise_is = same_Some line p.line f.1; kept_given = All-nil (λ q. Keeps q t); broken = f.0 }
 breaks (p ∷ ps) t line (inr f) =
     let b = breaks ps t line f.1 in
-    record { given = p ∷ b.given; promise = b.promise; others = b.others; promises_are = ap (λ (l : List Promise). p ∷ l) b.promises_are; promise_is = b.promise_is; broken = b.broken }
+    record { given = p ∷ b.given; promise = b.promise; others = b.others; promises_are = ap (λ (l : List Promise). p ∷ l) b.promises_are; promise_is = b.promise_is; kept_given = All-cons (λ q. Keeps q t) p b.given f.0 b.kept_given; broken = b.broken }
 
 -- the table that breaks one
 record BreaksIn (ps : List Promise) (line k : ℕ) (ts : List (List File)) (b : Broken) : Type 0 where
@@ -132,6 +133,7 @@ record BreaksIn (ps : List Promise) (line k : ℕ) (ts : List (List File)) (b : 
   later : List (List File)
   tables_are : ts ≡ earlier ++ (b.table ∷ later)
   step_is : b.step ≡ k + length earlier
+  kept_earlier : All (λ u. All (λ p. Keeps p u) ps) earlier
   breaks : Breaks ps b.table b.promise
 
 breaks_in : (ps : List Promise) (line k : ℕ) (ts : List (List File)) (b : Broken) → FindsTable ps line k ts (Some b) → BreaksIn ps line k ts b
@@ -139,10 +141,10 @@ unfolding FindsTable
 breaks_in ps line k [] b f = absurd (none_some b (sym f))
 breaks_in ps line k (t ∷ ts) b (inl f) =
     let is : b ≡ record { promise = f.0; line = line; step = k; table = t } = same_Some b _ f.2 in
-    subst (BreaksIn ps line k (t ∷ ts)) (sym is) (record { line_is = refl; earlier = []; later = ts; tables_are = refl; step_is = omega arith; breaks = breaks ps t f.0 f.1 })
+    subst (BreaksIn ps line k (t ∷ ts)) (sym is) (record { line_is = refl; earlier = []; later = ts; tables_are = refl; step_is = omega arith; kept_earlier = All-nil (λ u. All (λ p. Keeps p u) ps); breaks = breaks ps t f.0 f.1 })
 breaks_in ps line k (t ∷ ts) b (inr f) =
     let w = breaks_in ps line (k + 1) ts b f.1 in
-    record { line_is = w.line_is; earlier = t ∷ w.earlier; later = w.later; tables_are = ap (λ (l : List (List File)). t ∷ l) w.tables_are; step_is = omega (arith, w.step_is); breaks = w.breaks }
+    record { line_is = w.line_is; earlier = t ∷ w.earlier; later = w.later; tables_are = ap (λ (l : List (List File)). t ∷ l) w.tables_are; step_is = omega (arith, w.step_is); kept_earlier = All-cons (λ u. All (λ p. Keeps p u) ps) t w.earlier (keeps_each ps t f.0) w.kept_earlier; breaks = w.breaks }
 
 pub is_broken : (ps : List Place) (b : Broken) → FindsPlace ps (Some b) → IsBroken ps b
 unfolding FindsPlace AreKept
@@ -161,11 +163,13 @@ is_broken (p ∷ ps) b (inl f) =
       later = w.later;
       tables_are = w.tables_are;
       step_is = omega (arith, w.step_is);
+      kept_earlier = w.kept_earlier;
       given = w.breaks.given;
       promise = w.breaks.promise;
       others = w.breaks.others;
       promises_are = w.breaks.promises_are;
       promise_is = w.breaks.promise_is;
+      kept_given = w.breaks.kept_given;
       broken = w.breaks.broken;
     }
 is_broken (p ∷ ps) b (inr f) =
@@ -181,11 +185,13 @@ is_broken (p ∷ ps) b (inr f) =
       later = w.later;
       tables_are = w.tables_are;
       step_is = w.step_is;
+      kept_earlier = w.kept_earlier;
       given = w.given;
       promise = w.promise;
       others = w.others;
       promises_are = w.promises_are;
       promise_is = w.promise_is;
+      kept_given = w.kept_given;
       broken = w.broken;
     }
 

@@ -1,5 +1,6 @@
 -- What a rehearsal tells of a script.
 use Rattle.std.specs.Prelude.{◌≡◌, ◌⊎◌, ℕ, ◌+◌, List, [], ◌∷◌, ◌++◌, length, Bool, true, false, Option, Some, None, if◌then◌else◌}
+use Rattle.std.specs.List.{All}
 use Rattle.geometry.specs.declared.geometry.Geometry.{Geometry}
 use Rattle.table_model.specs.Table.{File, State}
 use Rattle.table_model.specs.Window.{Moment, settled_at}
@@ -120,7 +121,8 @@ Tells g s script (NotKept broken) = IsFollowed g s script × FindsPlace (places_
 
 -- ---- what that means
 
--- A promise is broken at a place by one of the published steps: a table that a cut there may leave doesn't keep it.
+-- A promise is broken at a place by one of the published steps: a table that a cut there may leave doesn't keep it. At the places before, and by
+-- the tables before it at that place, all promises are kept, and by that table those that stand before this one.
 pub record IsBroken (ps : List Place) (b : Broken) : Type 0 where
   pub before : List Place
   pub place : Place
@@ -132,14 +134,16 @@ pub record IsBroken (ps : List Place) (b : Broken) : Type 0 where
   pub later : List (List File)
   pub tables_are : place.tables ≡ earlier ++ (b.table ∷ later)
   pub step_is : b.step ≡ length earlier
+  pub kept_earlier : All (λ table. All (λ p. Keeps p table) place.promises) earlier
   pub given : List Promise
   pub promise : Promise
   pub others : List Promise
   pub promises_are : place.promises ≡ given ++ (promise ∷ others)
   pub promise_is : b.promise ≡ promise.line
+  pub kept_given : All (λ p. Keeps p b.table) given
   pub broken : Keeps promise b.table → ⊥
 
--- A rehearsal that tells no fault, no tight call and no broken promise finds the script good, and one that tells a broken promise is right.
+-- A rehearsal that tells no fault, no tight call and no broken promise finds the script good, and one that tells a broken promise tells the first.
 abbrev pub KeptIsGood : Geometry → Type 0
 KeptIsGood g = (s : State) (script : List ℕ) (promises tables : ℕ) → Tells g s script (AllKept promises tables) → IsGood g s script
 

@@ -16,7 +16,7 @@ pub fn kept_promises_hold()
 {}
 
 /// What a rehearsal tells is so: it finds a script good only where the promises are kept at each place, and a table that is told as breaking one
-/// is a published step that does.
+/// is the first published step that does.
 pub fn verdicts_are_right()
     ensures kept { (g : Geometry) → KeptIsGood g }
     ensures broken { (g : Geometry) → BrokenIsStep g }
