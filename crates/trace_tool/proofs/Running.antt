@@ -20,13 +20,14 @@ fresh_board board image bytes lent said = record { bytes = bytes ∙ sym lent; s
 
 module _ (g : Geometry) (lent : Lengths) (image script : List ℕ) (board : MemBoard) (was is : Recorder) (begun ended : HeldScript) (status : ℕ) where
   -- a run of which no call failed
-  pub rehearses : IsFresh board → mem.bytes board ≡ image → mem.unit board ≡ g.phys → mem.moment board ≡ 0 → was.board ≡ board → was.faults ≡ 0 → held.left begun ≡ script → DoesRun rec held g lent was is begun ended status
+  pub rehearses : IsFresh board → mem.bytes board ≡ image → mem.unit board ≡ g.phys → mem.moment board ≡ 0 → was.board ≡ board → was.events.items ≡ [] → was.faults ≡ 0 → held.left begun ≡ script → DoesRun rec held g lent was is begun ended status
       → (status ≡ 7 → Rose was.faults is.faults) → (status ≡ 8 → Rose 0 0) → is.faults ≡ 0 → Rehearses g lent image script is status
-  rehearses fresh bytes unit moment board_is none begins run board_fault script_fault none_failed = record {
+  rehearses fresh bytes unit moment board_is none_yet none begins run board_fault script_fault none_failed = record {
     was = was;
     begun = begun;
     ended = ended;
     fresh = record { bytes = ap mem.bytes board_is ∙ (fresh.bytes ∙ sym (ap mem.lent board_is)); said = ap mem.said board_is ∙ fresh.said };
+    none_yet = none_yet;
     moment = ap mem.moment board_is ∙ moment;
     unit = ap mem.unit board_is ∙ unit;
     image_is = ap mem.bytes board_is ∙ bytes;

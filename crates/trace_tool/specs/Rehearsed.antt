@@ -1,5 +1,5 @@
 -- The run of a script on an image in memory, and what is judged of it.
-use Rattle.std.specs.Prelude.{◌≡◌, ◌≢◌, ℕ, ◌<◌, ◌≤◌, List, length, min}
+use Rattle.std.specs.Prelude.{◌≡◌, ◌≢◌, ℕ, ◌<◌, ◌≤◌, List, [], length, min}
 use Rattle.geometry.specs.declared.geometry.Geometry.{Geometry}
 use Rattle.call_script.specs.Lines.{calls}
 use Rattle.image_model.specs.Kinds.{spoiled_blocks}
@@ -17,12 +17,14 @@ use Rattle.flash_trace.specs.Verdicts.{IsTraceVerdict}
 use Rattle.tool_parts.specs.declared.buffers.Lengths.{Lengths}
 use Rattle.script_run.specs.Running.{DoesRun}
 
--- A recorder over a device that held an image, and a script from memory: the run of the one on the other ended with that status, and no call failed.
+-- A recorder without events over a device that held an image, and a script from memory: the run of the one on the other ended with that status, and
+-- no call failed.
 pub record Rehearses (g : Geometry) (lent : Lengths) (image script : List ℕ) (is : Recorder) (status : ℕ) : Type 0 where
   pub was : Recorder
   pub begun : HeldScript
   pub ended : HeldScript
   pub fresh : IsFresh was.board
+  pub none_yet : was.events.items ≡ []
   pub moment : rec.moment was ≡ 0
   pub unit : rec.unit was ≡ g.phys
   pub image_is : rec.bytes was ≡ image

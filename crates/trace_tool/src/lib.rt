@@ -7,4 +7,5 @@ mod plan;
 mod rehearsing;
 mod tool;
 
+pub use plan::is_accepted;
 pub use tool::{Traced, trace_tool};

@@ -15,4 +15,4 @@ returns c =
     let fresh = fresh_board c.in-Ok-new.board c.args.image.items made.bytes made.first made.said in
     let none : c.run_on-status.new.board.faults ≡ 0 = search rules in
     rehearses c.args.g.now (lengths_of c.args.bufs.now) c.args.image.items c.args.script.now c.in-Ok-new.board c.new-recorder.result c.run_on-status.new.board c.new-held.result c.run_on-status.new.script c.run_on-status.result
-    fresh made.bytes (made.unit ∙ c.phys.ensures) made.moment c.new-recorder.ensures.board c.new-recorder.ensures.faults (search rules) c.run_on-status.ensures.does c.run_on-status.ensures.board_fault c.run_on-status.ensures.script_fault none
+    fresh made.bytes (made.unit ∙ c.phys.ensures) made.moment c.new-recorder.ensures.board c.new-recorder.ensures.events c.new-recorder.ensures.faults (search rules) c.run_on-status.ensures.does c.run_on-status.ensures.board_fault c.run_on-status.ensures.script_fault none
