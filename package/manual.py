@@ -8,6 +8,7 @@ KINDS = {
     "BLOCK": "4096 8192 16384 32768 65536",
     "META": "0 4",
     "MAGIC": "len plain",
+    "tables": "tables",
 }
 FILES, FOLDERS = "CHIP", "FOLDER"
 # The paragraphs that begin a section of the man page, by their first words.
@@ -29,8 +30,8 @@ class Form:
 
     @property
     def words(self):
-        """The words behind the verb, up to what the shell reads itself."""
-        return self.line.split(" <")[0].split()[1:]
+        """The words behind the verb, up to what the shell reads itself; one in brackets may be left out."""
+        return [word.strip("[]") for word in self.line.split(" <")[0].split()[1:]]
 
 
 class Help:

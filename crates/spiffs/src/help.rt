@@ -159,21 +159,22 @@ the META that reads most whole files, or `M1-M2` where several read as many.
 A trace is a line `legal E events R replies`: programs, erases and prints, each
 of which leaves what a power cut may leave, and whole replies.
 
-Statuses: 0 all was done; 1 usage; 2 numbers or device refused; 3 no volume;
-4 blocks hold pages of both kinds, and too few are free to part them: extract
-the files and make a new chip; 5 a line outside the grammar; 6 no room for the
-files of the folder, or for the next step of a copy; 7 a chip or the output
-failed, 8 the script could not be read, 9 the folder failed; 10 lent memory too
-short; 11 the script is too long; 12 an id is damaged; 13 a name of the folder
-is no file's, or an earlier one's, or the source of a copy has the name of a
-copy; 14 fewer than two free blocks; 15 no memory; 17 no file has that id; 18 a
-chip of the source failed; 19 what a traced run did is not legal, or the chip
-holds no volume; 20 a volume of more than 131072 bytes, or a script of more than
-16384, is not traced; 21 a page does not read as it was written; 22 the chips
-make no row, or a copy's volumes share one; 23 `run`, `check`, `scrub`,
-`map` or `copy`: ids are damaged on the volume that is written, and another META
- reads more whole files, nothing was written; 24 a promise is broken. Standard
- error tells more of statuses 1, 3, 4, 7, 8, 9, 13, 18, 22 and 23, what a traced
- run ended with, what `make` passed over, and how many damaged files were
- removed.
+Statuses: 0 all was done; 1 usage; 2 numbers or device refused; 3 no volume; 4
+blocks hold pages of both kinds, and too few are free to part them: extract the
+files and make a new chip; 5 a line outside the grammar, or one with `#!` that
+is no promise; 6 no room for the files of the folder, or for the next step of a
+copy; 7 a chip or the output failed, 8 the script could not be read, 9 the
+folder failed; 10 lent memory too short; 11 the script is too long; 12 an id is
+damaged; 13 a name of the folder is no file's, or an earlier one's, or the
+source of a copy has the name of a copy; 14 fewer than two free blocks, or, of a
+rehearsal, a line that cuts a file where the volume is full; 15 no memory; 17 no
+file has that id; 18 a chip of the source failed; 19 what a traced run did is
+not legal, or the chip holds no volume; 20 a volume of more than 131072 bytes,
+or a script of more than 16384, is not traced; 21 a page does not read as it was
+written; 22 the chips make no row, or a copy's volumes share one; 23 `run`,
+`check`, `scrub`, `map` or `copy`: ids are damaged on the volume that is
+written, and another META reads more whole files, nothing was written; 24 a
+promise is broken. Standard error tells more of statuses 1, 3, 4, 7, 8, 9, 13,
+18, 22 and 23, what a traced run ended with, what `make` passed over, and how
+many damaged files were removed.
 ";

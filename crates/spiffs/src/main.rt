@@ -31,7 +31,7 @@ use tool_core::{is_accepted, spiffs_tool};
 use tool_parts::{Buffers, chip_size_of, unit_of};
 use trace::trace_on;
 use usage::wrong_word;
-use words::{FOLDER_WORD, chip_word, detects, repairs, traces, word};
+use words::{FOLDER_WORD, chip_word, detects, repairs, word};
 
 /// The status where the words are no command.
 const USAGE: u8 = 1;
@@ -336,11 +336,9 @@ fn run(
         return Ok(OTHER_META);
     }
     let mut script = StdSource::new(rt.stdin());
-    if traces(words) {
-        return Ok(trace_on(rt, words, &mut board, &mut script, &mut bufs));
-    }
     let mut folder = folder_of(rt, words)?;
     let status = match word(words, 0) {
+        "trace" => trace_on(rt, words, &mut board, &mut script, &mut bufs),
         "rehearse" => rehearse_tool(rt.alloc(), words, &mut board, &mut script, &mut bufs),
         _ => spiffs_tool(words, &mut board, &mut script, &mut folder, &mut bufs),
     };

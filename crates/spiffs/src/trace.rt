@@ -1,6 +1,6 @@
 //! The command `trace`.
 use crate::detect::tell_found;
-use crate::{BOARD_FAULT, NO_VOLUME, SCRIPT_FAULT, explain, explain_board, explain_status};
+use crate::{NO_VOLUME, explain_status};
 use host_edge::{FileChip, StdBoard, StdSource};
 use std::io::{Read, Write};
 use tool_parts::Buffers;
@@ -18,7 +18,8 @@ fn explain_run(rt: &HostRuntime, words: &[String], status: u8) {
     }
 }
 
-/// Does the command over a board and a script, and says on standard error what the one who gave it has to know.
+/// Does the command over a board and a script. What the run in memory ended with is said on standard error; why the command failed is left
+/// to the caller.
 pub fn trace_on<W: Write + Drop, R: Read + Drop>(
     rt: &HostRuntime,
     words: &[String],
@@ -27,11 +28,6 @@ pub fn trace_on<W: Write + Drop, R: Read + Drop>(
     bufs: &mut Buffers<'_>,
 ) -> u8 {
     let Traced { status, run } = trace_tool(rt.alloc(), words, board, script, bufs);
-    match status {
-        BOARD_FAULT => explain_board(rt, words, board),
-        SCRIPT_FAULT => explain(rt, script.trouble()),
-        _ => explain_status(rt, words, status),
-    }
     if let Some(ended) = run {
         explain_run(rt, words, ended);
     }

@@ -1,5 +1,5 @@
 //! Which word of a faulty command line is wrong.
-use crate::words::{CHIP_WORD, FOLDER_WORD, chip_word, detects, target_words, word};
+use crate::words::{CHIP_WORD, FOLDER_WORD, TABLES_WORD, chip_word, detects, target_words, word};
 use call_script::parse_number;
 use std::fmt;
 
@@ -29,6 +29,8 @@ pub enum Wrong<'w> {
     Magic(&'w str),
     /// A name is empty.
     Empty(&'static str),
+    /// What stands behind CHIP is not `tables`.
+    Last(&'w str),
 }
 
 impl fmt::Display for Wrong<'_> {
@@ -53,6 +55,10 @@ impl fmt::Display for Wrong<'_> {
             }
             Wrong::Magic(given) => write!(f, "MAGIC is len or plain, and not {given}"),
             Wrong::Empty(name) => write!(f, "{name} is empty"),
+            Wrong::Last(given) => write!(
+                f,
+                "behind CHIP stands tables or nothing, and not {given}"
+            ),
         }
     }
 }
@@ -61,7 +67,7 @@ impl fmt::Display for Wrong<'_> {
 fn form_of(verb: &str) -> Option<(&'static str, usize)> {
     match verb {
         "run" | "list" | "check" | "trace" => Some(("PAGE BLOCK BLOCKS META MAGIC CHIP", 6)),
-        "rehearse" => Some(("PAGE BLOCK BLOCKS META MAGIC CHIP and tables or nothing", 6)),
+        "rehearse" => Some(("PAGE BLOCK BLOCKS META MAGIC CHIP [tables]", 6)),
         "extract" | "make" => Some(("PAGE BLOCK BLOCKS META MAGIC CHIP FOLDER", 7)),
         "soak" => Some(("PAGE BLOCK BLOCKS META MAGIC CHIP SEED COUNT", 8)),
         "scrub" => Some(("PAGE BLOCK BLOCKS META MAGIC CHIP LIMIT", 7)),
@@ -141,6 +147,9 @@ fn wrong_end(words: &[String]) -> Option<Wrong<'_>> {
         "scrub" => wrong_between(words, 7, "LIMIT", 1, 32_767),
         "map" => wrong_number(words, 7, "ID", 65_535),
         "copy" => wrong_volume(target_words(words)).or(wrong_chip(target_words(words))),
+        "rehearse" if words.len() > TABLES_WORD && word(words, TABLES_WORD) != "tables" => {
+            Some(Wrong::Last(word(words, TABLES_WORD)))
+        }
         _ => None,
     }
 }
@@ -158,7 +167,8 @@ pub fn wrong_word(words: &[String]) -> Option<Wrong<'_>> {
         return Some(Wrong::Verb(verb));
     };
     let given = words.len() - 1;
-    let is_longer = verb == "rehearse" && given == 7 && word(words, 7) == "tables";
+    // (a rehearsal may have one word more)
+    let is_longer = verb == "rehearse" && given == TABLES_WORD;
     if given != count && !is_longer {
         return Some(Wrong::Count { verb, form, given });
     }

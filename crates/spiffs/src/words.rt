@@ -6,6 +6,9 @@ pub const CHIP_WORD: usize = 6;
 /// The place among the words of the folder's name.
 pub const FOLDER_WORD: usize = 7;
 
+/// The place among the words of `tables`, in a rehearsal.
+pub const TABLES_WORD: usize = 7;
+
 /// The place among the words of the chip files' names in `detect CHIP`.
 const DETECT_CHIP_WORD: usize = 1;
 
@@ -30,11 +33,6 @@ pub fn target_words(words: &[String]) -> &[String] {
 /// Whether the words are to say which volumes a chip may hold.
 pub fn detects(words: &[String]) -> bool {
     word(words, 0) == "detect"
-}
-
-/// Whether the words are to trace a run of a script.
-pub fn traces(words: &[String]) -> bool {
-    word(words, 0) == "trace"
 }
 
 /// The word with the chip files' names.
