@@ -1,15 +1,18 @@
 -- What a rehearsal leaves that said what it came to.
 use Rattle.std.proofs.Common.{◌≡◌, ◌≢◌, ◌⊎◌, ℕ, ◌≤◌, List, ◌++◌, ap, refl, subst, sym, ◌∙◌, arith, inl, inr, ⊎_elim, Bool, Option, Some, None, Result, Ok, Err}
+use Rattle.std.specs.Prelude.{min}
 use Rattle.geometry.specs.declared.geometry.Geometry.{Geometry}
 use Rattle.nor_core.specs.declared.state.NorState.{Ghosts as NorOf}
 use Rattle.nor_core.specs.declared.source.Source.{Ghosts as SourceOf}
 use Rattle.nor_core.specs.Count.{Rose}
-use Rattle.nor_core.specs.Device.{OnlyReads}
+use Rattle.nor_core.specs.Device.{OnlyReads, Leaves}
 use Rattle.table_model.specs.Table.{State}
-use Rattle.promise_model.specs.Laws.{IsGood}
-use Rattle.promise_model.specs.Verdicts.{Told, Tells, IsFaulty, MayBeTight, AllKept, NotKept}
+use Rattle.call_script.specs.Lines.{lines}
+use Rattle.promise_model.specs.Laws.{IsGood, places_of}
+use Rattle.promise_model.specs.Verdicts.{Told, Tells, IsFaulty, MayBeTight, AllKept, NotKept, promise_count}
 use Rattle.promise_model.proofs.Telling.{kept_is_good, broken_is_step}
-use Rattle.promise_runs.specs.Runs.{volume_of}
+use Rattle.promise_runs.specs.Runs.{volume_of, CutKeeps}
+use Rattle.promise_runs.proofs.Runs.{runs_keep}
 use Rattle.image_tool.specs.Saying.{OnlySays}
 use Rattle.image_tool.proofs.Speaking.{says_one, front_one, says_after, front_after}
 use Rattle.tool_parts.specs.declared.buffers.Lengths.{Lengths}
@@ -26,8 +29,9 @@ use Rattle.rehearse_tool.specs.declared.input.Stop.{Stop}
 use Rattle.rehearse_tool.specs.declared.input.Stop.TheVariants.{Ends, NoMemory}
 use Rattle.rehearse_tool.specs.declared.answer.Answer.{Answer}
 use Rattle.rehearse_tool.specs.Outcomes.{IsStop, IsVerdictOn, IsStopOn, ComesTo, stop_status, outcome_text, outcome_status}
-use Rattle.rehearse_tool.specs.Rehearsing.{HasBroken, DoesRehearse}
-use Rattle.rehearse_tool.specs.Texts.{verdict_status}
+use Rattle.rehearse_tool.specs.Rehearsing.{EachRunKeeps, IsKept, HasBroken, DoesRehearse}
+use Rattle.rehearse_tool.specs.Texts.{verdict_status, rehearsal_text}
+use Rattle.rehearse_tool.proofs.Coming.{volume_with}
 
 -- ---- the status
 
@@ -60,30 +64,46 @@ wanted_is nor old new wanted status n ends is not = ⊎_elim
 
 module _ (g : Geometry) (s : State) (script : List ℕ) where
   -- a verdict of status 0
-  good_told : (told : Told) → Tells g s script told → verdict_status told ≡ 0 → IsGood g s script
-  good_told (IsFaulty f) tells is = absurd (omega (arith, is))
-  good_told (MayBeTight line) tells is = absurd (omega (arith, is))
-  good_told (AllKept promises tables) tells is = kept_is_good g s script promises tables tells
-  good_told (NotKept b) tells is = absurd (omega (arith, is))
+  kept_told : (tables : Bool) (told : Told) (text : List ℕ) → Tells g s script told → text ≡ rehearsal_text tables told (places_of g s script) → verdict_status told ≡ 0 → IsKept g tables s script text
+  kept_told tables (IsFaulty f) text tells said is = absurd (omega (arith, is))
+  kept_told tables (MayBeTight line) text tells said is = absurd (omega (arith, is))
+  kept_told tables (AllKept promises count) text tells said is = record {
+    good = kept_is_good g s script promises count tells;
+    said = said ∙ ap (λ (n : ℕ). rehearsal_text tables (AllKept n count) (places_of g s script)) tells.2 ∙ ap (λ (n : ℕ). rehearsal_text tables (AllKept (promise_count (lines script)) n) (places_of g s script)) tells.3;
+  }
+  kept_told tables (NotKept b) text tells said is = absurd (omega (arith, is))
 
   -- and one of status 24
-  broken_told : (told : Told) → Tells g s script told → verdict_status told ≡ 24 → HasBroken g s script
-  broken_told (IsFaulty f) tells is = absurd (omega (arith, is))
-  broken_told (MayBeTight line) tells is = absurd (omega (arith, is))
-  broken_told (AllKept promises tables) tells is = absurd (omega (arith, is))
-  broken_told (NotKept b) tells is = record { broken = b; is = broken_is_step g s script b tells }
+  broken_told : (tables : Bool) (told : Told) (text : List ℕ) → Tells g s script told → text ≡ rehearsal_text tables told (places_of g s script) → verdict_status told ≡ 24 → HasBroken g tables s script text
+  broken_told tables (IsFaulty f) text tells said is = absurd (omega (arith, is))
+  broken_told tables (MayBeTight line) text tells said is = absurd (omega (arith, is))
+  broken_told tables (AllKept promises count) text tells said is = absurd (omega (arith, is))
+  broken_told tables (NotKept b) text tells said is = record { broken = b; is = broken_is_step g s script b tells; first = tells.1; said = said }
 
   why_of : (tables : Bool) (image : List ℕ) (outcome : Result Answer Stop) → ComesTo g tables s image script outcome → IsVerdictOn g tables s image script (outcome_text outcome) (outcome_status outcome) ⊎ IsStopOn g image script (outcome_text outcome) (outcome_status outcome)
   why_of tables image (Ok answer) comes = inl comes
   why_of tables image (Err stop) comes = inr (record { stop = stop; why = comes; text_is = refl; status_is = refl })
 
-  good_of : (tables : Bool) (image : List ℕ) (outcome : Result Answer Stop) → ComesTo g tables s image script outcome → outcome_status outcome ≡ 0 → IsGood g s script
-  good_of tables image (Ok answer) comes is = good_told comes.judged.told comes.judged.tells (sym comes.judged.status_is ∙ is)
-  good_of tables image (Err stop) comes is = absurd ((stop_few g image script stop comes).0 is)
+  kept_of : (tables : Bool) (image : List ℕ) (outcome : Result Answer Stop) → ComesTo g tables s image script outcome → outcome_status outcome ≡ 0 → IsKept g tables s script (outcome_text outcome)
+  kept_of tables image (Ok answer) comes is = kept_told tables comes.judged.told answer.text.items comes.judged.tells comes.judged.text_is (sym comes.judged.status_is ∙ is)
+  kept_of tables image (Err stop) comes is = absurd ((stop_few g image script stop comes).0 is)
 
-  broken_of : (tables : Bool) (image : List ℕ) (outcome : Result Answer Stop) → ComesTo g tables s image script outcome → outcome_status outcome ≡ 24 → HasBroken g s script
-  broken_of tables image (Ok answer) comes is = broken_told comes.judged.told comes.judged.tells (sym comes.judged.status_is ∙ is)
+  broken_of : (tables : Bool) (image : List ℕ) (outcome : Result Answer Stop) → ComesTo g tables s image script outcome → outcome_status outcome ≡ 24 → HasBroken g tables s script (outcome_text outcome)
+  broken_of tables image (Ok answer) comes is = broken_told tables comes.judged.told answer.text.items comes.judged.tells comes.judged.text_is (sym comes.judged.status_is ∙ is)
   broken_of tables image (Err stop) comes is = absurd ((stop_few g image script stop comes).1 is)
+
+-- ---- the runs
+
+-- as many descriptors make the same volume of an image
+same_volume : (g : Geometry) (lent memory : Lengths) (image was : List ℕ) → memory.slots ≡ lent.slots → was ≡ image → volume_of g memory was ≡ volume_of g lent image
+same_volume g lent memory image was slots same = ap (volume_of g memory) same ∙ ap (λ (n : ℕ). volume_with g image (min 65535 n)) slots
+
+each_run_keeps : {D X : Type 0} (nor : NorOf D) (source : SourceOf X) (g : Geometry) (lent : Lengths) (image script : List ℕ) → IsGood g (volume_of g lent image) script → EachRunKeeps nor source g lent image script
+each_run_keeps nor source g lent image script good memory from to given rest status slots bytes left run told tells =
+    subst (λ (s : State). IsGood g s script → Leaves nor from to (CutKeeps nor g s script from)) (same_volume g lent memory image (nor.bytes from) slots bytes)
+    (subst (λ (text : List ℕ). IsGood g (volume_of g memory (nor.bytes from)) text → Leaves nor from to (CutKeeps nor g (volume_of g memory (nor.bytes from)) text from)) left
+    (runs_keep nor source g memory from to given rest status run told tells))
+    good
 
 -- ---- the board
 
@@ -92,6 +112,10 @@ module _ {D X : Type 0} (nor : NorOf D) (source : SourceOf X) (g : Geometry) (le
   -- the status that is wanted, or a fault
   ends_so : EndsWith nor old new (outcome_status outcome) status
   ends_so = ⊎_elim (λ (e : status ≡ outcome_status outcome). inl e) (λ (r : (status ≡ 7) × Rose (nor.faults mid) (nor.faults new)). inr (r.0, omega (arith, r.1, reads.faults))) closes.ends
+
+  kept_so : (source.tells script → nor.tells old → ComesTo g tables (volume_of g lent (nor.bytes old)) (nor.bytes old) (source.left script) outcome) → source.tells script → nor.tells old → status ≡ 0
+      → IsKept g tables (volume_of g lent (nor.bytes old)) (source.left script) (outcome_text outcome)
+  kept_so comes tells told is = kept_of g (volume_of g lent (nor.bytes old)) (source.left script) tables (nor.bytes old) outcome (comes tells told) (wanted_is nor old new (outcome_status outcome) status 0 ends_so is (λ e. omega (arith, e)))
 
   pub does_rehearse : (source.tells script → nor.tells old → ComesTo g tables (volume_of g lent (nor.bytes old)) (nor.bytes old) (source.left script) outcome) → DoesRehearse nor source g lent tables old new script after status
   does_rehearse comes = record {
@@ -105,7 +129,8 @@ module _ {D X : Type 0} (nor : NorOf D) (source : SourceOf X) (g : Geometry) (le
       front = front_after reads (front_one closes.says);
     };
     why = λ tells told. why_of g (volume_of g lent (nor.bytes old)) (source.left script) tables (nor.bytes old) outcome (comes tells told);
-    good = λ tells told is. good_of g (volume_of g lent (nor.bytes old)) (source.left script) tables (nor.bytes old) outcome (comes tells told) (wanted_is nor old new (outcome_status outcome) status 0 ends_so is (λ e. omega (arith, e)));
+    kept = λ tells told is. kept_so comes tells told is;
+    runs = λ tells told is. each_run_keeps nor source g lent (nor.bytes old) (source.left script) (kept_so comes tells told is).good;
     broken = λ tells told is. broken_of g (volume_of g lent (nor.bytes old)) (source.left script) tables (nor.bytes old) outcome (comes tells told) (wanted_is nor old new (outcome_status outcome) status 24 ends_so is (λ e. omega (arith, e)));
   }
 
