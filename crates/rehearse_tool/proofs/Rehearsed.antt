@@ -5,13 +5,13 @@ use Rattle.geometry.specs.declared.geometry.Geometry.{Geometry}
 use Rattle.nor_core.specs.declared.state.NorState.{Ghosts as NorOf}
 use Rattle.nor_core.specs.declared.source.Source.{Ghosts as SourceOf}
 use Rattle.nor_core.specs.Count.{Rose}
-use Rattle.nor_core.specs.Device.{OnlyReads, Leaves}
+use Rattle.nor_core.specs.Device.{OnlyReads}
 use Rattle.table_model.specs.Table.{State}
 use Rattle.call_script.specs.Lines.{lines}
 use Rattle.promise_model.specs.Laws.{IsGood, places_of}
 use Rattle.promise_model.specs.Verdicts.{Told, Tells, IsFaulty, MayBeTight, AllKept, NotKept, promise_count}
 use Rattle.promise_model.proofs.Telling.{kept_is_good, broken_is_step}
-use Rattle.promise_runs.specs.Runs.{volume_of, CutKeeps}
+use Rattle.promise_runs.specs.Runs.{volume_of, RunKeeps}
 use Rattle.promise_runs.proofs.Runs.{runs_keep}
 use Rattle.image_tool.specs.Saying.{OnlySays}
 use Rattle.image_tool.proofs.Speaking.{says_one, front_one, says_after, front_after}
@@ -45,13 +45,13 @@ refused_status g image ending why = ⊎_elim
 stop_few : (g : Geometry) (image script : List ℕ) (stop : Stop) → IsStop g image script stop → (stop_status stop ≢ 0) × (stop_status stop ≢ 24)
 stop_few g image script NoMemory why = (λ e. omega (arith, e), λ e. omega (arith, e))
 stop_few g image script (Ends ending) why = ⊎_elim
-    (λ (r : check_refusal g image ≡ Some ending). ⊎_elim (λ (s : status_of ending ≡ 3). (λ e. omega (arith, s, e), λ e. omega (arith, s, e))) (λ (s : status_of ending ≡ 4). (λ e. omega (arith, s, e), λ e. omega (arith, s, e))) (refused_status g image ending r))
-    (λ more. ⊎_elim
-    (λ long. let s : status_of ending ≡ 11 = ap status_of long.0 in (λ e. omega (arith, s, e), λ e. omega (arith, s, e)))
-    (λ faults. ⊎_elim
     (λ (b : ending ≡ BoardFault). let s : status_of ending ≡ 7 = ap status_of b in (λ e. omega (arith, s, e), λ e. omega (arith, s, e)))
+    (λ more. ⊎_elim
+    (λ (r : check_refusal g image ≡ Some ending). ⊎_elim (λ (s : status_of ending ≡ 3). (λ e. omega (arith, s, e), λ e. omega (arith, s, e))) (λ (s : status_of ending ≡ 4). (λ e. omega (arith, s, e), λ e. omega (arith, s, e))) (refused_status g image ending r))
+    (λ taken. ⊎_elim
+    (λ long. let s : status_of ending ≡ 11 = ap status_of long.0 in (λ e. omega (arith, s, e), λ e. omega (arith, s, e)))
     (λ (f : ending ≡ SourceFault). let s : status_of ending ≡ 8 = ap status_of f in (λ e. omega (arith, s, e), λ e. omega (arith, s, e)))
-    faults)
+    taken.1)
     more)
     why
 
@@ -100,8 +100,8 @@ same_volume g lent memory image was slots same = ap (volume_of g memory) same �
 
 each_run_keeps : {D X : Type 0} (nor : NorOf D) (source : SourceOf X) (g : Geometry) (lent : Lengths) (image script : List ℕ) → IsGood g (volume_of g lent image) script → EachRunKeeps nor source g lent image script
 each_run_keeps nor source g lent image script good memory from to given rest status slots bytes left run told tells =
-    subst (λ (s : State). IsGood g s script → Leaves nor from to (CutKeeps nor g s script from)) (same_volume g lent memory image (nor.bytes from) slots bytes)
-    (subst (λ (text : List ℕ). IsGood g (volume_of g memory (nor.bytes from)) text → Leaves nor from to (CutKeeps nor g (volume_of g memory (nor.bytes from)) text from)) left
+    subst (λ (s : State). IsGood g s script → RunKeeps nor g s script from to) (same_volume g lent memory image (nor.bytes from) slots bytes)
+    (subst (λ (text : List ℕ). IsGood g (volume_of g memory (nor.bytes from)) text → RunKeeps nor g (volume_of g memory (nor.bytes from)) text from to) left
     (runs_keep nor source g memory from to given rest status run told tells))
     good
 

@@ -3,12 +3,11 @@ use Rattle.std.specs.Prelude.{ℕ, ◌≡◌, ◌⊎◌, List, Bool, Some}
 use Rattle.geometry.specs.declared.geometry.Geometry.{Geometry}
 use Rattle.nor_core.specs.declared.state.NorState.{Ghosts as NorOf}
 use Rattle.nor_core.specs.declared.source.Source.{Ghosts as SourceOf}
-use Rattle.nor_core.specs.Device.{Leaves}
 use Rattle.table_model.specs.Table.{State}
 use Rattle.call_script.specs.Lines.{lines}
 use Rattle.promise_model.specs.Laws.{IsGood, places_of}
 use Rattle.promise_model.specs.Verdicts.{Broken, IsBroken, FindsPlace, AllKept, NotKept, promise_count, table_count}
-use Rattle.promise_runs.specs.Runs.{volume_of, CutKeeps}
+use Rattle.promise_runs.specs.Runs.{volume_of, RunKeeps}
 use Rattle.image_tool.specs.Saying.{OnlySays}
 use Rattle.tool_parts.specs.declared.buffers.Lengths.{Lengths}
 use Rattle.tool_parts.specs.Endings.{EndsWith, SaysWhole}
@@ -22,7 +21,7 @@ use Rattle.rehearse_tool.specs.Words.{wants_tables, IsPlanned}
 -- promise that is in force there.
 abbrev pub EachRunKeeps : {D X : Type 0} → NorOf D → SourceOf X → Geometry → Lengths → (image script : List ℕ) → Type 0
 EachRunKeeps {D} {X} nor source g lent image script = (memory : Lengths) (from to : D) (given rest : X) (status : ℕ) → memory.slots ≡ lent.slots → nor.bytes from ≡ image → source.left given ≡ script →
-    DoesRun nor source g memory from to given rest status → source.tells given → nor.tells from → Leaves nor from to (CutKeeps nor g (volume_of g lent image) script from)
+    DoesRun nor source g memory from to given rest status → source.tells given → nor.tells from → RunKeeps nor g (volume_of g lent image) script from to
 
 -- The promises of a script are kept at each of its places, and how many promises and tables there are is said.
 pub record IsKept (g : Geometry) (tables : Bool) (s : State) (script text : List ℕ) : Type 0 where

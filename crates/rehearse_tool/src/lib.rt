@@ -7,4 +7,5 @@ mod input;
 mod plan;
 mod tool;
 
+pub use plan::is_accepted;
 pub use tool::rehearse_tool;

@@ -1,11 +1,14 @@
 // The words of the command.
-ghost use Rattle.std.specs.Prelude.{◌≡◌, map, string_bytes, IfOk, IfErr, OnOk, Some, None};
+ghost use Rattle.std.specs.Prelude.{◌≡◌, map, string_bytes, is_none, IfOk, IfErr, OnOk, Some, None};
 ghost use Rattle.tool_parts.specs.Asked.{asked_by};
 ghost use Rattle.tool_parts.specs.Fits.{IsFitting, HasLengths};
+ghost use Rattle.tool_parts.specs.Lent.{lengths_of};
 ghost use Rattle.rehearse_tool.specs.Words.{has_form as the_form, numbers_of as the_numbers, wants_tables as the_wants, refusal_of, IsPlanned};
 
 use geometry::Geometry;
-use tool_parts::{Ending, Lengths, Numbers, read_numbers, with_room, word, written_geometry};
+use tool_parts::{
+    Buffers, Ending, Lengths, Numbers, measure, read_numbers, with_room, word, written_geometry,
+};
 
 // Whether the words are `rehearse PAGE BLOCK BLOCKS META MAGIC CHIP`, with `tables` behind them or not.
 #[tactic(auto, unfolding(tool_parts::specs::Words::is_text))]
@@ -54,4 +57,12 @@ pub(crate) fn plan(
         return Err(Ending::Usage);
     };
     with_room(written_geometry(numbers, unit, size), lent)
+}
+
+/// Whether the words spell a rehearsal that isn't refused on a device of that erase unit and size in bytes, with what is lent. A program asks this
+/// before it looks at the volume.
+pub fn is_accepted(words: &[String], unit: u32, size: u32, bufs: &Buffers<'_>) -> bool
+    ensures { result ≡ is_none (refusal_of (asked_by (map string_bytes words.now) unit size (lengths_of bufs.now))) }
+{
+    plan(words, unit, size, &measure(bufs)).is_ok()
 }

@@ -1,9 +1,10 @@
 // The command.
-ghost use Rattle.std.specs.Prelude.{◌≡◌, ◌<◌, ◌≤◌, ◌^◌, length, map, replicate, string_bytes, None, IfOk, IfErr, OnOk};
+ghost use Rattle.std.specs.Prelude.{◌≡◌, ◌<◌, ◌≤◌, ◌^◌, length, map, replicate, string_bytes, None, Some, IfOk, IfErr, OnOk};
 ghost use Rattle.nor_core.specs.Count.{Rose};
 ghost use Rattle.nor_core.specs.Device.{OnlyReads};
 ghost use Rattle.image_model.specs.Places.{IsImage};
 ghost use Rattle.image_model.specs.Tables.{table_of as the_table};
+ghost use Rattle.tool_parts.specs.declared.ending.Ending.{Ending as AnEnding};
 ghost use Rattle.tool_parts.specs.Endings.{ClosesWith, RefusesIf};
 ghost use Rattle.tool_parts.specs.Fits.{IsFitting};
 ghost use Rattle.tool_parts.specs.Later.{IsLaterStatus};
@@ -119,7 +120,7 @@ fn rehearse_on<B: Board, S: Source>(
 /// Rehearses a script on the volume of a board, which is only read, and answers the status. The words are
 /// `rehearse PAGE BLOCK BLOCKS META MAGIC CHIP`, with `tables` behind them or not. It says whether each table that a power cut in a run of the
 /// script may leave keeps the promises of its comments, and with `tables` each of these tables by line of the script. It refuses what `run`
-/// refuses. A script has at most 16,777,216 bytes. Wants memory for the chip, the script and the tables.
+/// refuses before it writes. A script has at most 16,777,216 bytes. Wants memory for the chip, the script and the tables.
 pub fn rehearse_tool<B: Board, S: Source>(
     alloc: Global,
     words: &[String],
@@ -129,6 +130,7 @@ pub fn rehearse_tool<B: Board, S: Source>(
 ) -> u8
     // What is refused before the chip is read: its closing line is said, and nothing else happens.
     ensures refused { RefusesIf B.NorState board.old board.new (refusal_of (asked_of B.NorState (map string_bytes words.now) board.old bufs.old)) result }
+    ensures untaken { (ending : AnEnding) → refusal_of (asked_of B.NorState (map string_bytes words.now) board.old bufs.old) ≡ Some ending → script.new ≡ script.old }
     // All else is a rehearsal on the volume of the words' numbers.
     ensures rehearses { refusal_of (asked_of B.NorState (map string_bytes words.now) board.old bufs.old) ≡ None → Rehearses B.NorState S.Source (asked_of B.NorState (map string_bytes words.now) board.old bufs.old) board.old board.new script.old script.new result }
     // A fault is told only where one was counted.

@@ -92,7 +92,7 @@ fn copy(
     let mut bufs = memory.target.lend();
     let mut seen = None;
     if is_accepted(words, &source, &board, &source_bufs, &bufs) {
-        seen = match look_on(behind, is_forced, &mut board, &mut bufs) {
+        seen = match look_on(behind, is_forced, true, &mut board, &mut bufs) {
             Ok(seen) => seen,
             Err(Failed) => {
                 explain_chip(rt, to, board.failed_chip(), board.trouble());

@@ -1,12 +1,11 @@
-//! A look at the volume before a command that removes damaged files for good.
-use crate::words::{repairs, word};
+//! A look at the volume before a command that removes damaged files for good, or tells what `run` would do.
+use crate::words::{foretells, word};
 use call_script::parse_number;
 use flash_view::View;
 use geometry::{Geometry, MagicKind};
 use meta_guess::{Guess, count_files, guess_meta};
 use nor_core::{Failed, Nor};
 use std::fmt;
-use tool_core::is_accepted;
 use tool_parts::Buffers;
 use vol_mount::{Lent, MountErr, accept, mount};
 
@@ -26,6 +25,8 @@ pub struct Better {
     pub given: u32,
     /// What it reads, and what the better one does.
     pub guess: Guess,
+    /// Whether the command removes damaged files for good.
+    pub removes: bool,
 }
 
 impl fmt::Display for Better {
@@ -43,9 +44,15 @@ impl fmt::Display for Better {
             f,
             "whole files: {whole} with META {given}, {more} with META {meta}; nothing was written; "
         )?;
+        let what = if self.removes {
+            "remove"
+        } else {
+            "go on without"
+        };
+        let end = if self.removes { " for good" } else { "" };
         write!(
             f,
-            "try META {meta}, or begin with --force to remove {lost} damaged files for good"
+            "try META {meta}, or begin with --force to {what} {lost} damaged files{end}"
         )
     }
 }
@@ -83,9 +90,13 @@ fn is_mounted<N: Nor>(g: &Geometry, nor: &mut N, lent: &mut Lent<'_>) -> Result<
 }
 
 // What a guess tells, where that META was given.
-fn seen_by(given: u32, guess: Guess) -> Seen {
+fn seen_by(given: u32, guess: Guess, removes: bool) -> Seen {
     let better = if guess.best.whole > guess.given.whole {
-        Some(Better { given, guess })
+        Some(Better {
+            given,
+            guess,
+            removes,
+        })
     } else {
         None
     };
@@ -99,6 +110,7 @@ fn seen_by(given: u32, guess: Guess) -> Seen {
 fn look_at<N: Nor>(
     g: &Geometry,
     is_forced: bool,
+    removes: bool,
     nor: &mut N,
     lent: &mut Lent<'_>,
 ) -> Result<Option<Seen>, Failed> {
@@ -113,27 +125,41 @@ fn look_at<N: Nor>(
         }));
     }
     let guess = guess_meta(g, nor, lent.work, lent.cache, lent.check)?;
-    Ok(Some(seen_by(g.meta(), guess)))
+    Ok(Some(seen_by(g.meta(), guess, removes)))
 }
 
-/// Looks at the volume, where the words are a command that removes damaged files, which isn't refused, and the volume mounts.
-/// Nothing is written.
+// Whether the words are a command that isn't refused, and is guarded.
+fn is_looked_at<N: Nor>(words: &[String], nor: &N, bufs: &Buffers<'_>) -> bool {
+    let unit = nor.unit();
+    let size = nor.size();
+    match word(words, 0) {
+        "run" | "check" | "scrub" | "map" => tool_core::is_accepted(words, unit, size, bufs),
+        "trace" => trace_tool::is_accepted(words, unit, size, bufs),
+        "rehearse" => rehearse_tool::is_accepted(words, unit, size, bufs),
+        _ => false,
+    }
+}
+
+/// Looks at the volume, where the words are a command that removes damaged files or tells what `run` would do, which isn't refused, and the
+/// volume mounts. Nothing is written.
 pub fn look_before<N: Nor>(
     words: &[String],
     is_forced: bool,
     nor: &mut N,
     bufs: &mut Buffers<'_>,
 ) -> Result<Option<Seen>, Failed> {
-    if !repairs(words) || !is_accepted(words, nor.unit(), nor.size(), bufs) {
+    if !is_looked_at(words, nor, bufs) {
         return Ok(None);
     }
-    look_on(words, is_forced, nor, bufs)
+    look_on(words, is_forced, !foretells(words), nor, bufs)
 }
 
-/// Looks at the volume of the numbers that stand behind the first word, where it mounts. Nothing is written.
+/// Looks at the volume of the numbers that stand behind the first word, where it mounts, before a command that removes damaged files for good or
+/// not. Nothing is written.
 pub fn look_on<N: Nor>(
     words: &[String],
     is_forced: bool,
+    removes: bool,
     nor: &mut N,
     bufs: &mut Buffers<'_>,
 ) -> Result<Option<Seen>, Failed> {
@@ -149,5 +175,5 @@ pub fn look_on<N: Nor>(
     if !is_mounted(&g, nor, &mut lent)? {
         return Ok(None);
     }
-    look_at(&g, is_forced, nor, &mut lent)
+    look_at(&g, is_forced, removes, nor, &mut lent)
 }

@@ -31,7 +31,7 @@ use tool_core::{is_accepted, spiffs_tool};
 use tool_parts::{Buffers, chip_size_of, unit_of};
 use trace::trace_on;
 use usage::wrong_word;
-use words::{FOLDER_WORD, chip_word, detects, repairs, word};
+use words::{FOLDER_WORD, chip_word, detects, foretells, is_guarded, word};
 
 /// The status where the words are no command.
 const USAGE: u8 = 1;
@@ -264,6 +264,18 @@ fn explain_removed(rt: &impl Eprint, seen: Option<Seen>, status: u8) {
     }
 }
 
+// Says on standard error how many damaged files there are, where a command tells what `run` would do.
+fn explain_damaged(rt: &impl Eprint, seen: Option<Seen>) {
+    let Some(seen) = seen else {
+        return;
+    };
+    let damaged = seen.damaged;
+    if damaged > 0 {
+        // (if standard error fails too there is nobody to tell)
+        let _said = eprintln!(rt; "spiffs: damaged files that run would remove: {damaged}");
+    }
+}
+
 // Says on standard error what of the folder was passed over, and what is wrong with a name.
 fn explain_folder<'r>(rt: &impl Eprint, folder: &StdFolder<&'r HostRuntime>, status: u8) {
     for passed in folder.passed_over() {
@@ -349,7 +361,11 @@ fn run(
         0 | FULL | BAD_NAME if word(words, 0) == "make" => explain_folder(rt, &folder, status),
         _ => explain_status(rt, words, status),
     }
-    explain_removed(rt, seen, status);
+    if foretells(words) {
+        explain_damaged(rt, seen);
+    } else {
+        explain_removed(rt, seen, status);
+    }
     if status == NO_VOLUME {
         tell_found(rt, words);
     }
@@ -419,10 +435,10 @@ fn begin(rt: &HostRuntime, words: &[String], is_forced: bool) -> Result<u8, Refu
     run(rt, words, is_forced, &mut memory)
 }
 
-// The words without a first `--force`, and whether it stands there before a command that removes damaged files.
+// The words without a first `--force`, and whether it stands there before a command that is guarded.
 fn without_force(words: &[String]) -> (&[String], bool) {
     match words {
-        [first, rest @ ..] if first.as_str() == "--force" && repairs(rest) => (rest, true),
+        [first, rest @ ..] if first.as_str() == "--force" && is_guarded(rest) => (rest, true),
         _ => (words, false),
     }
 }

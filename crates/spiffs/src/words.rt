@@ -25,6 +25,16 @@ pub fn repairs(words: &[String]) -> bool {
     matches!(word(words, 0), "run" | "check" | "scrub" | "map" | "copy")
 }
 
+/// Whether the words are a command that tells what `run` would do, and writes nothing.
+pub fn foretells(words: &[String]) -> bool {
+    matches!(word(words, 0), "trace" | "rehearse")
+}
+
+/// Whether the words are a command that goes on, where another META reads more whole files, only behind `--force`.
+pub fn is_guarded(words: &[String]) -> bool {
+    repairs(words) || foretells(words)
+}
+
 /// The words from the source's chips on, in a copy: the target's stand behind these as those of any other volume.
 pub fn target_words(words: &[String]) -> &[String] {
     words.get(CHIP_WORD..).unwrap_or(&[])
