@@ -52,8 +52,9 @@ spiffs: a SPIFFS 0.3.7 flash volume in a chip file, or in several end to end
       tells whether each table of files that a power cut in the script may leave
       keeps the promises of its comments; with `tables` each; writes nothing
       spiffs rehearse 256 4096 16 0 len chip < script
-  spiffs --force run .. | check .. | scrub .. | map .. | copy ..
-      goes on where another META reads more whole files
+  spiffs --force COMMAND ..
+      goes on where another META reads more whole files; COMMAND is run, check,
+      scrub, map, copy, trace or rehearse
   spiffs --help | --version
 
   PAGE    bytes of a page, a power of two from 128 to 4096
@@ -172,9 +173,9 @@ file has that id; 18 a chip of the source failed; 19 what a traced run did is
 not legal, or the chip holds no volume; 20 a volume of more than 131072 bytes,
 or a script of more than 16384, is not traced; 21 a page does not read as it was
 written; 22 the chips make no row, or a copy's volumes share one; 23 `run`,
-`check`, `scrub`, `map` or `copy`: ids are damaged on the volume that is
-written, and another META reads more whole files, nothing was written; 24 a
-promise is broken. Standard error tells more of statuses 1, 3, 4, 7, 8, 9, 13,
-18, 22 and 23, what a traced run ended with, what `make` passed over, and how
-many damaged files were removed.
+`check`, `scrub`, `map`, `copy`, `trace` or `rehearse`: ids are damaged on the
+volume, of a copy on the target, and another META reads more whole files,
+nothing was written; 24 a promise is broken. Standard error tells more of
+statuses 1, 3, 4, 7, 8, 9, 13, 18, 22 and 23, what a traced run ended with, what
+`make` passed over, and how many damaged files were removed.
 ";

@@ -8,7 +8,7 @@ use std::fmt;
 pub enum Wrong<'w> {
     /// There is no word.
     Nothing,
-    /// `--force` stands before another command than `run`, `check`, `scrub`, `map` and `copy`.
+    /// `--force` stands before another command than `run`, `check`, `scrub`, `map`, `copy`, `trace` and `rehearse`.
     Force,
     /// The first word is no command.
     Verb(&'w str),
@@ -37,7 +37,10 @@ impl fmt::Display for Wrong<'_> {
     fn fmt<W: fmt::Write>(&self, f: &mut fmt::Formatter<W>) -> fmt::Result {
         match self {
             Wrong::Nothing => write!(f, "no command is given"),
-            Wrong::Force => write!(f, "--force is for run, check, scrub, map and copy alone"),
+            Wrong::Force => write!(
+                f,
+                "--force is for run, check, scrub, map, copy, trace and rehearse alone"
+            ),
             Wrong::Verb(verb) => write!(f, "there is no command {verb}"),
             Wrong::Count { verb, form, given } => {
                 write!(f, "{verb} takes {form}, and {given} words are given")
