@@ -4,6 +4,7 @@ use fd_table::FdSlot;
 use folder_core::MemFolder;
 use geometry::{Geometry, MagicKind};
 use nor_memory::{CallKind, MemBoard, MemSource};
+use rehearse_tool::rehearse_tool;
 use std::alloc::{AllocError, Global};
 use tool_core::spiffs_tool;
 use tool_parts::Buffers;
@@ -175,10 +176,15 @@ impl Bench {
         let words = words_of(self.alloc, words)?;
         let mut loan = self.loan()?;
         let mut bufs = loan.bufs();
-        if words.first().is_some_and(|word| word.as_str() == "trace") {
-            return Ok(trace_tool(self.alloc, &words, board, script, &mut bufs).status);
-        }
-        Ok(spiffs_tool(&words, board, script, folder, &mut bufs))
+        let verb = match words.first() {
+            Some(word) => word.as_str(),
+            None => "",
+        };
+        Ok(match verb {
+            "trace" => trace_tool(self.alloc, &words, board, script, &mut bufs).status,
+            "rehearse" => rehearse_tool(self.alloc, &words, board, script, &mut bufs),
+            _ => spiffs_tool(&words, board, script, folder, &mut bufs),
+        })
     }
 
     /// What the command of these words does on a device that holds an image, by the calls of a script and over a folder, where
