@@ -62,7 +62,7 @@ fn answer_on(
 }
 
 // Reads the chip and the script, and rehearses it.
-#[tactic(auto, using(crate::proofs::Coming::comes_ok, crate::proofs::Coming::comes_refused, crate::proofs::Coming::comes_unread, crate::proofs::Coming::comes_unscripted, crate::proofs::Coming::later_unread, crate::proofs::Coming::later_unscripted, crate::proofs::Coming::later_refused, crate::proofs::Coming::later_judged, crate::proofs::Coming::fault_unread, crate::proofs::Coming::fault_unscripted, crate::proofs::Coming::board_refused, crate::proofs::Coming::script_refused))]
+#[tactic(auto, using(crate::proofs::Coming::comes_ok, crate::proofs::Coming::comes_refused, crate::proofs::Coming::comes_unread, crate::proofs::Coming::comes_unscripted, crate::proofs::Coming::later_unread, crate::proofs::Coming::later_unscripted, crate::proofs::Coming::later_refused, crate::proofs::Coming::later_judged, crate::proofs::Coming::fault_unread, crate::proofs::Coming::fault_unscripted))]
 fn perform<B: Board, S: Source>(
     alloc: Global,
     g: Geometry,
