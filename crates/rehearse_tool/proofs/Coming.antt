@@ -93,6 +93,19 @@ pub later_judged : (g : Geometry) (tables : Bool) (s : State) (script text : Lis
 later_judged g tables s script text status judged = later_told judged.told status judged.status_is
 
 -- where a status is that of a fault, the fault was one
+pub fault_refused : {R : Type 0} (g : Geometry) (image : List ℕ) (stop : Stop) → IsRefusedBy (check_refusal g image) stop → (stop_status stop ≡ 7) ⊎ (stop_status stop ≡ 8) → R
+fault_refused g image NoMemory why is = absurd (⊎_elim (λ (e : 15 ≡ 7). omega (arith, e)) (λ (e : 15 ≡ 8). omega (arith, e)) is)
+fault_refused g image (Ends ending) why is = absurd (⊎_elim
+    (λ (e : ending ≡ NotAFs (spoiled_blocks g image)). let s : status_of ending ≡ 3 = ap status_of e in ⊎_elim (λ b. omega (arith, s, b)) (λ f. omega (arith, s, f)) is)
+    (λ (e : ending ≡ Mixed (shared_blocks g image)). let s : status_of ending ≡ 4 = ap status_of e in ⊎_elim (λ b. omega (arith, s, b)) (λ f. omega (arith, s, f)) is)
+    (refusal_is g image ending why))
+
+pub board_refused : {R : Type 0} (g : Geometry) (image : List ℕ) (stop : Stop) → IsRefusedBy (check_refusal g image) stop → stop_status stop ≡ 7 → R
+board_refused g image stop why is = fault_refused g image stop why (inl is)
+
+pub script_refused : {R : Type 0} (g : Geometry) (image : List ℕ) (stop : Stop) → IsRefusedBy (check_refusal g image) stop → stop_status stop ≡ 8 → R
+script_refused g image stop why is = fault_refused g image stop why (inr is)
+
 pub fault_unread : {R : Type 0} (stop : Stop) → (stop ≡ NoMemory) ⊎ ((stop ≡ Ends BoardFault) × R) → stop_status stop ≡ 7 → R
 fault_unread stop why is = ⊎_elim
     (λ (none : stop ≡ NoMemory). let s : stop_status stop ≡ 15 = ap stop_status none in absurd (omega (arith, s, is)))

@@ -1,5 +1,5 @@
 // The command.
-ghost use Rattle.std.specs.Prelude.{◌≡◌, ◌<◌, ◌≤◌, ◌^◌, length, map, replicate, string_bytes, None, Some, IfOk, IfErr, OnOk};
+ghost use Rattle.std.specs.Prelude.{◌≡◌, ◌<◌, ◌≤◌, ◌^◌, length, map, min, replicate, string_bytes, None, Some, IfOk, IfErr, OnOk};
 ghost use Rattle.nor_core.specs.Count.{Rose};
 ghost use Rattle.nor_core.specs.Device.{OnlyReads};
 ghost use Rattle.image_model.specs.Places.{IsImage};
@@ -96,6 +96,13 @@ fn say_outcome<B: Board>(board: &mut B, outcome: Result<Answer, Stop>) -> u8
     }
 }
 
+// How many descriptors the volume has.
+fn slots_of(bufs: &Buffers<'_>) -> u16
+    ensures { result ≡ min 65535 (lengths_of bufs.now).slots }
+{
+    bufs.slots.len().min(65535) as u16
+}
+
 // A rehearsal that isn't refused.
 #[tactic(auto, using(crate::proofs::Rehearsed::does_rehearse, crate::proofs::Rehearsed::later_closed, crate::proofs::Rehearsed::rose_closed, crate::proofs::Rehearsed::script_closed))]
 fn rehearse_on<B: Board, S: Source>(
@@ -112,7 +119,7 @@ fn rehearse_on<B: Board, S: Source>(
     ensures script_fault { result ≡ 8 → Rose (S.faults script.old) (S.faults script.new) }
     ensures does { DoesRehearse B.NorState S.Source g (lengths_of bufs.now) tables board.old board.new script.old script.new result }
 {
-    let slots = bufs.slots.len().min(65535) as u16;
+    let slots = slots_of(bufs);
     let outcome = perform(alloc, g, tables, board, script, slots);
     say_outcome(board, outcome)
 }
@@ -128,7 +135,7 @@ pub fn rehearse_tool<B: Board, S: Source>(
     script: &mut S,
     bufs: &mut Buffers<'_>,
 ) -> u8
-    // What is refused before the chip is read: its closing line is said, and nothing else happens.
+    // What is refused before the chip is read: its closing line is said, and nothing else happens; nothing is taken of the script.
     ensures refused { RefusesIf B.NorState board.old board.new (refusal_of (asked_of B.NorState (map string_bytes words.now) board.old bufs.old)) result }
     ensures untaken { (ending : AnEnding) → refusal_of (asked_of B.NorState (map string_bytes words.now) board.old bufs.old) ≡ Some ending → script.new ≡ script.old }
     // All else is a rehearsal on the volume of the words' numbers.
