@@ -50,7 +50,7 @@ spiffs: a SPIFFS 0.3.7 flash volume in a chip file, or in several end to end
       spiffs trace 256 4096 16 0 len chip < script
   spiffs rehearse PAGE BLOCK BLOCKS META MAGIC CHIP [tables] < SCRIPT
       tells whether each table of files that a power cut in the script may leave
-      keeps the promises of its comments; with `tables` each; writes nothing
+      keeps the promises of its comments; with `tables` prints each; writes nothing
       spiffs rehearse 256 4096 16 0 len chip < script
   spiffs --force COMMAND ..
       goes on where another META reads more whole files; COMMAND is run, check,
@@ -122,9 +122,9 @@ file, -10030 and -10023 the file is there, -10022 the descriptor does not read,
 two blocks are free, -10001 the volume is full.
 
 Promises are comments of a script for rehearse. `#! first NAME NAME ..`: up to
-a line `#! end` the first of these files that is there has the bytes that it has
-here, or those that it has at the end. `#! some NAME NAME ..`: one of these is
-there. `#! kept NAME`: it is there with the bytes that it has here.
+a line `#! end` one who reads the first of these files that is there finds what
+he finds here, or at the end. `#! some NAME NAME ..`: one of these is there.
+`#! kept NAME`: it is there with the bytes that it has here.
 
 A list is a line `ID TYPE SIZE NAME` for each file, then for each damaged id
 `damaged ID span S`, `damaged ID name` or `damaged ID same ID2`.
