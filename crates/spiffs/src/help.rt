@@ -50,7 +50,8 @@ spiffs: a SPIFFS 0.3.7 flash volume in a chip file, or in several end to end
       spiffs trace 256 4096 16 0 len chip < script
   spiffs rehearse PAGE BLOCK BLOCKS META MAGIC CHIP [tables] < SCRIPT
       tells whether each table of files that a power cut in the script may leave
-      keeps the promises of its comments; with `tables` prints each; writes nothing
+      keeps the promises of its comments, and with `tables` prints each; writes
+      nothing
       spiffs rehearse 256 4096 16 0 len chip < script
   spiffs --force COMMAND ..
       goes on where another META reads more whole files; COMMAND is run, check,
