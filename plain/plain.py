@@ -41,8 +41,7 @@ PACKAGES = [
     Package("spiffs", ["spiffs"]),
     Package("script_rows", ["script_rows"]),
     Package("image_explain", ["image_explain"]),
-    # (the last two are for what is to come)
-    Package("plain_tests", ["base_tests", "engine_tests", "firmware_example", "promise_runs"]),
+    Package("plain_tests", ["base_tests", "engine_tests", "firmware_example"]),
 ]
 
 # Crates of a registry.

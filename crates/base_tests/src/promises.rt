@@ -49,7 +49,7 @@ fn files(alloc: Global) -> Result<Vec<PlainFile>, AllocError> {
 }
 
 // Scripts and what a rehearsal of each tells.
-const SCRIPTS: [(&str, Told); 24] = [
+const SCRIPTS: [(&str, Told); 36] = [
     // empty and write: a cut behind the opening leaves an empty file
     (
         "#! first cfg\nopen cfg 22\nwrite 1 new\nclose 1\n#! end\n",
@@ -103,7 +103,10 @@ const SCRIPTS: [(&str, Told); 24] = [
         "open cfg 22\nwrite 1 new\n#! kept cfg\ntell 1\n",
         Told::Broken(3, 4, 0),
     ),
-    ("open cfg 22\nwrite 1 new\n#! kept cfg\n", Told::Broken(3, 4, 0)),
+    (
+        "open cfg 22\nwrite 1 new\n#! kept cfg\n",
+        Told::Broken(3, 4, 0),
+    ),
     (
         "open cfg 22\nwrite 1 new\nflush 1\n#! kept cfg\n",
         Told::Kept(1, 7),
@@ -133,6 +136,26 @@ const SCRIPTS: [(&str, Told); 24] = [
     ("#! kept a b\n", Told::BadPromise(1)),
     ("#!first a\nnonsense\n", Told::BadPromise(1)),
     ("# a comment\nnonsense\n#! never\n", Told::BadLine(2)),
+    // words that are parted by more than a space, a carriage return, and no word at all
+    ("#!\n", Told::BadPromise(1)),
+    ("#!  first a\n", Told::BadPromise(1)),
+    ("#! some a  b\n", Told::BadPromise(1)),
+    ("#! kept a \n", Told::BadPromise(1)),
+    ("#! kept a\r\n", Told::BadPromise(1)),
+    ("#! end a\n", Told::BadPromise(1)),
+    // one end is that of both promises
+    (
+        "#! first cfg\n#! first a\n#! end\n#! end\n",
+        Told::BadPromise(4),
+    ),
+    // a comment, and a line that is none
+    ("# ! kept x\n", Told::Kept(0, 1)),
+    (" #! kept x\n", Told::BadLine(1)),
+    // a name is written as in a call, and the last line needs no end
+    ("#! kept %63f%67", Told::Kept(1, 1)),
+    // no file is a value of `first` too
+    ("#! first cfg\nremove cfg\n", Told::Kept(1, 3)),
+    ("", Told::Kept(0, 1)),
 ];
 
 #[test]
@@ -141,25 +164,42 @@ fn each_way_to_replace_a_file_has_its_verdict(rt: HostRuntime) -> Result<(), Fai
     let files = files(rt.alloc())?;
     for (script, wanted) in SCRIPTS.iter() {
         let verdict = rehearse(rt.alloc(), g, files.as_slice(), 2, script.as_bytes())?;
-        assert!(rt; tells(&verdict) == *wanted, "{}{:?}", script, tells(&verdict));
+        assert!(rt;
+            tells(&verdict) == *wanted,
+            "{}{:?}",
+            script,
+            tells(&verdict)
+        );
     }
     Ok(())
 }
 
 // What is listed of a script that makes one file: the table before it and the one with it in its line, and the latter behind it.
-const LISTED: &str = "line 1 step 0\n1 1 3 cfg\n2 1 3 a\n3 1 3 b\n4 1 3 log\nline 1 step 1\n1 1 3 cfg\n2 1 3 a\n3 1 3 b\n4 1 3 log\n5 1 0 x\nline 2 step 0\n1 1 3 cfg\n2 1 3 a\n3 1 3 b\n4 1 3 log\n5 1 0 x\n";
+const LISTED: &str = "\
+line 1 step 0
+1 1 3 cfg
+2 1 3 a
+3 1 3 b
+4 1 3 log
+line 1 step 1
+1 1 3 cfg
+2 1 3 a
+3 1 3 b
+4 1 3 log
+5 1 0 x
+line 2 step 0
+1 1 3 cfg
+2 1 3 a
+3 1 3 b
+4 1 3 log
+5 1 0 x
+";
 
 #[test]
 fn each_table_of_a_script_is_listed(rt: HostRuntime) -> Result<(), Fail> {
     let g = Geometry::new(256, 4096, 16, 4096, 0, MagicKind::Length)?;
     let files = files(rt.alloc())?;
-    let text = list_tables(
-        rt.alloc(),
-        g,
-        files.as_slice(),
-        2,
-        "create x\n".as_bytes(),
-    )?;
+    let text = list_tables(rt.alloc(), g, files.as_slice(), 2, "create x\n".as_bytes())?;
     assert!(rt; text.as_slice() == LISTED.as_bytes());
     Ok(())
 }
