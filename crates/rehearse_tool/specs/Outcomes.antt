@@ -1,5 +1,5 @@
 -- What a rehearsal comes to: a text and a status, or why there is no verdict.
-use Rattle.std.specs.Prelude.{ℕ, ◌≡◌, ◌⊎◌, ◌<◌, List, length, codes, Bool, Option, Some, None, Result, Ok, Err}
+use Rattle.std.specs.Prelude.{ℕ, ◌≡◌, ◌⊎◌, ◌<◌, ◌≤◌, List, length, codes, Bool, Option, Some, None, Result, Ok, Err}
 use Rattle.geometry.specs.declared.geometry.Geometry.{Geometry}
 use Rattle.table_model.specs.Table.{State}
 use Rattle.promise_model.specs.Laws.{places_of}
@@ -29,9 +29,11 @@ abbrev pub stop_status : Stop → ℕ
 stop_status (Ends ending) = status_of ending
 stop_status NoMemory = 15
 
--- why there is none on that image and script: `run` doesn't take the image, the script is too long, something can't be read, or there is no memory
+-- Why there is none on that image and script: `run` doesn't take the image, or the chip can't be read; or, of an image that it takes, the script is
+-- too long or can't be read; or there is no memory.
 abbrev pub IsStop : Geometry → (image script : List ℕ) → Stop → Type 0
-IsStop g image script (Ends ending) = (check_refusal g image ≡ Some ending) ⊎ (((ending ≡ TooLong) × (16777216 < length script)) ⊎ ((ending ≡ BoardFault) ⊎ (ending ≡ SourceFault)))
+IsStop g image script (Ends ending) =
+    (check_refusal g image ≡ Some ending) ⊎ ((ending ≡ BoardFault) ⊎ ((check_refusal g image ≡ None) × (((ending ≡ TooLong) × (16777216 < length script)) ⊎ (ending ≡ SourceFault))))
 IsStop g image script NoMemory = Unit {0}
 
 -- the text and the status that a rehearsal comes to
@@ -43,9 +45,10 @@ abbrev pub outcome_status : Result Answer Stop → ℕ
 outcome_status (Ok answer) = answer.status
 outcome_status (Err stop) = stop_status stop
 
--- The verdict on a script, on a volume of an image that `run` takes; or why there is none.
+-- The verdict on a script that isn't too long, on a volume of an image that `run` takes; or why there is none.
 pub record IsVerdictOn (g : Geometry) (tables : Bool) (s : State) (image script text : List ℕ) (status : ℕ) : Type 0 where
   pub taken : check_refusal g image ≡ None
+  pub few : length script ≤ 16777216
   pub judged : IsJudged g tables s script text status
 
 pub record IsStopOn (g : Geometry) (image script text : List ℕ) (status : ℕ) : Type 0 where
