@@ -1,10 +1,9 @@
 -- What a rehearsal on an image comes to, from what it found.
-use Rattle.std.proofs.Common.{◌≡◌, ◌≢◌, ◌⊎◌, ℕ, ◌<◌, ◌≤◌, List, length, ap, subst, refl, sym, ◌∙◌, arith, inl, inr, ⊎_elim, Bool, Option, Some, None, Result, Ok, Err}
+use Rattle.std.proofs.Common.{◌≡◌, ◌≢◌, ◌⊎◌, ℕ, ◌<◌, ◌≤◌, List, length, ap, subst, refl, sym, ◌∙◌, arith, inl, inr, ⊎_elim, Bool, None, Ok}
 use Rattle.std.specs.Prelude.{replicate}
 use Rattle.geometry.specs.declared.geometry.Geometry.{Geometry}
 use Rattle.table_model.specs.Table.{State}
 use Rattle.image_model.specs.Tables.{table_of}
-use Rattle.tool_parts.specs.declared.ending.Ending.{Ending}
 use Rattle.tool_parts.specs.declared.ending.Ending.TheVariants.{NotAFs, Mixed, BoardFault, SourceFault, TooLong}
 use Rattle.image_model.specs.Kinds.{spoiled_blocks}
 use Rattle.image_model.specs.Shared.{shared_blocks}
@@ -24,34 +23,34 @@ abbrev pub volume_with : Geometry → List ℕ → ℕ → State
 volume_with g image slots = record { table = table_of g image; slots = replicate slots None }
 
 -- a verdict, on what was read
-pub comes_ok : (g : Geometry) (tables : Bool) (slots : ℕ) (image bytes text script : List ℕ) (answer : Answer) → image ≡ bytes → text ≡ script → check_refusal g image ≡ None → length text ≤ 16777216
-    → IsJudged g tables (volume_with g image slots) text answer.text.items answer.status → ComesTo g tables (volume_with g bytes slots) bytes script (Ok answer)
+pub comes_ok : (g : Geometry) (tables : Bool) (slots : ℕ) (image bytes text script : List ℕ) (answer : Answer) → image ≡ bytes → text ≡ script → check_refusal g image ≡ None → length text ≤ 16777216 → IsJudged g tables (volume_with g image slots) text answer.text.items answer.status
+    → ComesTo g tables (volume_with g bytes slots) bytes script (Ok answer)
 comes_ok g tables slots image bytes text script answer read whole taken few judged =
     subst (λ (i : List ℕ). IsVerdictOn g tables (volume_with g i slots) i script answer.text.items answer.status) read
     (subst (λ (t : List ℕ). IsVerdictOn g tables (volume_with g image slots) image t answer.text.items answer.status) whole (record { taken = taken; few = few; judged = judged }))
+
+-- an image that isn't taken
+pub comes_refused : (g : Geometry) (image bytes script : List ℕ) (stop : Stop) → image ≡ bytes → IsRefusedBy (check_refusal g image) stop → IsStop g bytes script stop
+comes_refused g image bytes script NoMemory read why = tt {0}
+comes_refused g image bytes script (Ends ending) read why = inl (ap (check_refusal g) (sym read) ∙ why)
 
 -- a chip that can't be read, or no memory for it
 pub comes_unread : {R : Type 0} (g : Geometry) (image script : List ℕ) (stop : Stop) → (stop ≡ NoMemory) ⊎ ((stop ≡ Ends BoardFault) × R) → IsStop g image script stop
 comes_unread g image script stop why = ⊎_elim
     (λ (none : stop ≡ NoMemory). subst (IsStop g image script) (sym none) (tt {0}))
-    (λ fault. subst (IsStop g image script) (sym fault.0) (inl refl))
+    (λ fault. subst (IsStop g image script) (sym fault.0) (inr (inl refl)))
     why
 
--- an image that isn't taken
-pub comes_refused : (g : Geometry) (image bytes script : List ℕ) (stop : Stop) → image ≡ bytes → IsRefusedBy (check_refusal g image) stop → IsStop g bytes script stop
-comes_refused g image bytes script NoMemory read why = tt {0}
-comes_refused g image bytes script (Ends ending) read why = inr (inl (ap (check_refusal g) (sym read) ∙ why))
-
--- a script that is too long or can't be read, or no memory for it, where the image is taken
+-- a script that is too long or can't be read, or no memory for it
 pub comes_unscripted : {R : Type 0} (g : Geometry) (image bytes script : List ℕ) (stop : Stop) → image ≡ bytes → check_refusal g image ≡ None → (stop ≡ Ends TooLong → 16777216 < length script)
     → (stop ≡ NoMemory) ⊎ ((stop ≡ Ends TooLong) ⊎ ((stop ≡ Ends SourceFault) × R)) → IsStop g bytes script stop
 comes_unscripted g image bytes script stop read taken long why =
-    let is_taken : check_refusal g bytes ≡ None = ap (check_refusal g) (sym read) ∙ taken in
+    let takes : check_refusal g bytes ≡ None = ap (check_refusal g) (sym read) ∙ taken in
     ⊎_elim
     (λ (none : stop ≡ NoMemory). subst (IsStop g bytes script) (sym none) (tt {0}))
     (λ more. ⊎_elim
-    (λ (is : stop ≡ Ends TooLong). subst (IsStop g bytes script) (sym is) (inr (inr (is_taken, inl (refl, long is)))))
-    (λ fault. subst (IsStop g bytes script) (sym fault.0) (inr (inr (is_taken, inr refl))))
+    (λ (is : stop ≡ Ends TooLong). subst (IsStop g bytes script) (sym is) (inr (inr (takes, inl (refl, long is)))))
+    (λ fault. subst (IsStop g bytes script) (sym fault.0) (inr (inr (takes, inr refl))))
     more)
     why
 

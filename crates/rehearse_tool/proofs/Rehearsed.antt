@@ -1,5 +1,5 @@
 -- What a rehearsal leaves that said what it came to.
-use Rattle.std.proofs.Common.{◌≡◌, ◌≢◌, ◌⊎◌, ℕ, ◌≤◌, List, ◌++◌, ap, refl, subst, sym, ◌∙◌, arith, inl, inr, ⊎_elim, Bool, Option, Some, None, Result, Ok, Err}
+use Rattle.std.proofs.Common.{◌≡◌, ◌≢◌, ◌⊎◌, ℕ, List, ◌++◌, ap, refl, subst, sym, ◌∙◌, arith, inl, inr, ⊎_elim, Bool, Some, Result, Ok, Err}
 use Rattle.std.specs.Prelude.{min}
 use Rattle.geometry.specs.declared.geometry.Geometry.{Geometry}
 use Rattle.nor_core.specs.declared.state.NorState.{Ghosts as NorOf}
@@ -13,13 +13,12 @@ use Rattle.promise_model.specs.Verdicts.{Told, Tells, IsFaulty, MayBeTight, AllK
 use Rattle.promise_model.proofs.Telling.{kept_is_good, broken_is_step}
 use Rattle.promise_runs.specs.Runs.{volume_of, RunKeeps}
 use Rattle.promise_runs.proofs.Runs.{runs_keep}
-use Rattle.image_tool.specs.Saying.{OnlySays}
 use Rattle.image_tool.proofs.Speaking.{says_one, front_one, says_after, front_after}
 use Rattle.tool_parts.specs.declared.buffers.Lengths.{Lengths}
 use Rattle.tool_parts.specs.declared.ending.Ending.{Ending}
-use Rattle.tool_parts.specs.declared.ending.Ending.TheVariants.{NotAFs, Mixed, BoardFault, SourceFault, TooLong}
+use Rattle.tool_parts.specs.declared.ending.Ending.TheVariants.{NotAFs, Mixed, BoardFault, SourceFault}
 use Rattle.tool_parts.specs.Closing.{status_of}
-use Rattle.tool_parts.specs.Endings.{EndsWith, ClosesWith, SaysWhole}
+use Rattle.tool_parts.specs.Endings.{EndsWith, ClosesWith}
 use Rattle.tool_parts.specs.Later.{IsLaterStatus}
 use Rattle.tool_parts.specs.Refusals.{check_refusal}
 use Rattle.tool_parts.proofs.Refusals.{refusal_is}
@@ -45,13 +44,13 @@ refused_status g image ending why = ⊎_elim
 stop_few : (g : Geometry) (image script : List ℕ) (stop : Stop) → IsStop g image script stop → (stop_status stop ≢ 0) × (stop_status stop ≢ 24)
 stop_few g image script NoMemory why = (λ e. omega (arith, e), λ e. omega (arith, e))
 stop_few g image script (Ends ending) why = ⊎_elim
-    (λ (b : ending ≡ BoardFault). let s : status_of ending ≡ 7 = ap status_of b in (λ e. omega (arith, s, e), λ e. omega (arith, s, e)))
-    (λ more. ⊎_elim
     (λ (r : check_refusal g image ≡ Some ending). ⊎_elim (λ (s : status_of ending ≡ 3). (λ e. omega (arith, s, e), λ e. omega (arith, s, e))) (λ (s : status_of ending ≡ 4). (λ e. omega (arith, s, e), λ e. omega (arith, s, e))) (refused_status g image ending r))
-    (λ taken. ⊎_elim
+    (λ more. ⊎_elim
+    (λ (b : ending ≡ BoardFault). let s : status_of ending ≡ 7 = ap status_of b in (λ e. omega (arith, s, e), λ e. omega (arith, s, e)))
+    (λ later. ⊎_elim
     (λ long. let s : status_of ending ≡ 11 = ap status_of long.0 in (λ e. omega (arith, s, e), λ e. omega (arith, s, e)))
     (λ (f : ending ≡ SourceFault). let s : status_of ending ≡ 8 = ap status_of f in (λ e. omega (arith, s, e), λ e. omega (arith, s, e)))
-    taken.1)
+    later.1)
     more)
     why
 

@@ -29,11 +29,11 @@ abbrev pub stop_status : Stop → ℕ
 stop_status (Ends ending) = status_of ending
 stop_status NoMemory = 15
 
--- Why there is none on that image and script: the chip can't be read; `run` doesn't take the image; or it does, and the script is too long or can't
--- be read. Or there is no memory.
+-- Why there is none on that image and script: `run` doesn't take the image, or the chip can't be read; or, of an image that it takes, the script is
+-- too long or can't be read; or there is no memory.
 abbrev pub IsStop : Geometry → (image script : List ℕ) → Stop → Type 0
 IsStop g image script (Ends ending) =
-    (ending ≡ BoardFault) ⊎ ((check_refusal g image ≡ Some ending) ⊎ ((check_refusal g image ≡ None) × (((ending ≡ TooLong) × (16777216 < length script)) ⊎ (ending ≡ SourceFault))))
+    (check_refusal g image ≡ Some ending) ⊎ ((ending ≡ BoardFault) ⊎ ((check_refusal g image ≡ None) × (((ending ≡ TooLong) × (16777216 < length script)) ⊎ (ending ≡ SourceFault))))
 IsStop g image script NoMemory = Unit {0}
 
 -- the text and the status that a rehearsal comes to
@@ -45,7 +45,7 @@ abbrev pub outcome_status : Result Answer Stop → ℕ
 outcome_status (Ok answer) = answer.status
 outcome_status (Err stop) = stop_status stop
 
--- The verdict on a script of at most 16,777,216 bytes, on a volume of an image that `run` takes; or why there is none.
+-- The verdict on a script that isn't too long, on a volume of an image that `run` takes; or why there is none.
 pub record IsVerdictOn (g : Geometry) (tables : Bool) (s : State) (image script text : List ℕ) (status : ℕ) : Type 0 where
   pub taken : check_refusal g image ≡ None
   pub few : length script ≤ 16777216
