@@ -1,11 +1,11 @@
 -- Promises in the runs of a script.
-use Rattle.std.proofs.Common.{◌≡◌, ◌⊎◌, ℕ, ◌+◌, List, [], ◌∷◌, ◌++◌, length, refl, sym, ◌∙◌, ap, subst, arith, inl, inr, ⊎_elim, append_assoc, append-nil, length-append}
+use Rattle.std.proofs.Common.{◌≡◌, ℕ, ◌+◌, List, [], ◌∷◌, ◌++◌, length, refl, sym, ◌∙◌, ap, subst, inl, inr, ⊎_elim, append_assoc, append-nil}
 use Rattle.geometry.specs.declared.geometry.Geometry.{Geometry}
 use Rattle.nor_core.specs.declared.state.NorState.{Ghosts as NorOf}
 use Rattle.nor_core.specs.declared.source.Source.{Ghosts as SourceOf}
 use Rattle.nor_core.specs.Device.{Leaves}
 use Rattle.nor_core.proofs.Cuts.{widened}
-use Rattle.table_model.specs.Table.{File, State}
+use Rattle.table_model.specs.Table.{State}
 use Rattle.table_model.specs.Ask.{Ask}
 use Rattle.table_model.specs.Window.{Moment, settled_at}
 use Rattle.call_script.specs.Lines.{calls}
@@ -14,9 +14,8 @@ use Rattle.run_model.specs.Runs.{RunCall, AreFair, IsUnderWay, asks_of, after_al
 use Rattle.run_model.proofs.Runs.{asks-append}
 use Rattle.promise_model.specs.Laws.{KeepsAll, IsGood}
 use Rattle.promise_model.proofs.Keeping.{cuts_keep, ends_keep}
-use Rattle.tool_parts.specs.declared.buffers.Lengths.{Lengths}
 use Rattle.tool_parts.specs.Closing.{closing_line_of}
-use Rattle.script_run.specs.Running.{CallCut, ClosingCut, Breaks, Closes, Outcome, DoesRun}
+use Rattle.script_run.specs.Running.{CallCut, ClosingCut, Breaks, Closes, Outcome}
 use Rattle.promise_runs.specs.Runs.{volume_of, IsBehind, CutKeeps, RunKeeps, RunsKeep}
 
 -- what was said while some calls are under way stands behind the replies before them
@@ -28,7 +27,7 @@ behind_way g m (x ∷ xs) part image way = way.said
 module _ {D : Type 0} (nor : NorOf D) (g : Geometry) (s : State) (script : List ℕ) (good : IsGood g s script) (old new : D) where
   -- before the first call
   at_first : KeepsAll g s script 0 s.table
-  unfolding after_all AreFair
+  unfolding after_all AreFair settled_at
   at_first = ends_keep g s script good [] (calls script) refl (tt {0})
 
   -- a cut in the calls
