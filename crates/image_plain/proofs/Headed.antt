@@ -7,7 +7,8 @@ use Rattle.std.proofs.lemmas.List.{get_or-set_same, get_or-set_other, get_or-rep
 use Rattle.geometry.specs.declared.geometry.Geometry.{Geometry}
 use Rattle.geometry.specs.Numbers.{page_count}
 use Rattle.image_model.specs.Headers.{obj_id}
-use Rattle.image_model.specs.Live.{Live, own}
+use Rattle.image_model.specs.Places.{page_of}
+use Rattle.image_model.specs.Live.{Live, live_at, is_live, own}
 use Rattle.image_model.specs.Files.{is_index, index_page}
 use Rattle.std.specs.List.{range_with_len}
 use Rattle.image_model.specs.Tidy.{is_number}
@@ -86,3 +87,24 @@ find_other test (x ∷ xs) p h =
 pub index_other : (g : Geometry) (pages : Live) (span p : ℕ) → is_index (pages p) span ≡ false → is_number (index_page g pages span) p ≡ false
 unfolding index_page
 index_other g pages span p h = find_other (λ (q : ℕ). is_index (pages q) span) (range_with_len 0 (page_count g)) p h
+
+-- ---- live index pages of an id, by their own bytes
+
+index_if : (page : List ℕ) (mine : Bool) (span : ℕ) → is_index (if mine then Some page else None) span ≡ (is_index (Some page) span && mine)
+index_if page true span = sym (and_true (is_index (Some page) span))
+index_if page false span = sym (and_false (is_index (Some page) span))
+
+index_parts : (page : List ℕ) (live : Bool) (id span : ℕ) →
+    is_index (option_and_then (λ x. if obj_id x % 0x8000 == id then Some x else None) (if live then Some page else None)) span ≡ ((is_index (Some page) span && (obj_id page % 0x8000 == id)) && live)
+index_parts page true id span = index_if page (obj_id page % 0x8000 == id) span ∙ sym (and_true (is_index (Some page) span && (obj_id page % 0x8000 == id)))
+index_parts page false id span = sym (and_false (is_index (Some page) span && (obj_id page % 0x8000 == id)))
+
+both_of : (x y a b : Bool) → x ≡ (a && b) → a ≡ y → x ≡ (y && b)
+both_of x y a b e f = rw (← f) e
+
+-- a page is a live index page of an id where its bytes say so and it is live
+pub index_told : (g : Geometry) (image page : List ℕ) (id p span : ℕ) (told : Bool) → page ≡ page_of g image p → told ≡ (is_index (Some page) span && (obj_id page % 0x8000 == id)) →
+    is_index (own (live_at g image) id p) span ≡ (told && is_live g image p)
+unfolding own live_at
+index_told g image page id p span told at is =
+    both_of _ told _ (is_live g image p) (index_parts (page_of g image p) (is_live g image p) id span) (sym (is ∙ ap (λ (bytes : List ℕ). is_index (Some bytes) span && (obj_id bytes % 0x8000 == id)) at))

@@ -60,7 +60,7 @@ equal_text : (xs : List ℕ) → same_text xs xs ≡ true
 equal_text [] = refl
 equal_text (x ∷ xs) = rw (eq-eqb x x refl) (equal_text xs)
 
-texts : (xs ys : List ℕ) → same_text xs ys ≡ true → xs ≡ ys
+pub texts : (xs ys : List ℕ) → same_text xs ys ≡ true → xs ≡ ys
 texts xs ys e = text_is xs ys (sym e)
 
 not_true : (b : Bool) → not b ≡ true → b ≡ false
@@ -207,7 +207,7 @@ module _ (has : Found) (pages n : ℕ) (name : List ℕ) where
       let bad : true ≡ false = sym (before_is (has i) w.page pages w.file name w.is w.named (within.below i w.page w.file w.is)) ∙ none i low (omega arith) in
       absurd (cc)))
 
-  counting : (p : ℕ) → ((j : ℕ) → 1 ≤ j → j < n + 1 → is_before (has j) p name ≡ false) → counts has n p name ≡ true
+  pub counting : (p : ℕ) → ((j : ℕ) → 1 ≤ j → j < n + 1 → is_before (has j) p name ≡ false) → counts has n p name ≡ true
   unfolding counts
   counting p none =
       let quiet : list_any (λ (id : ℕ). is_before (has id) p name) (ids n) ≡ false = any_nothing (λ (id : ℕ). is_before (has id) p name) 1 n (λ i low high. none i low (omega arith)) in
@@ -251,12 +251,12 @@ files_more g live n old new b was more is = record {
       (cases_eq p n);
 }
 
-record IsWhole (g : Geometry) (live : Live) (id q : ℕ) : Type 0 where
-  head : List ℕ
-  file : File
-  own_is : own live id q ≡ Some head
-  name_is : name_of head ≡ Some file.name
-  has_is : has_of g live id ≡ Some (q, Ok file)
+pub record IsWhole (g : Geometry) (live : Live) (id q : ℕ) : Type 0 where
+  pub head : List ℕ
+  pub file : File
+  pub own_is : own live id q ≡ Some head
+  pub name_is : name_of head ≡ Some file.name
+  pub has_is : has_of g live id ≡ Some (q, Ok file)
 
 whole_named : (g : Geometry) (live : Live) (id p q : ℕ) (head : List ℕ) (name : Option (List ℕ)) (missing : Option ℕ) → index_page g (own live id) 0 ≡ Some p → own live id p ≡ Some head → name_of head ≡ name → first_missing g (own live id) head ≡ missing →
     file_page (Some (p, judged_by g (own live id) id head name missing)) ≡ Some q → IsWhole g live id q
@@ -284,7 +284,7 @@ whole_at : (g : Geometry) (live : Live) (id q : ℕ) (o : Option ℕ) → index_
 whole_at g live id q None at e = absurd (cc)
 whole_at g live id q (Some p) at e = whole_own g live id p q (own live id p) at refl e
 
-whole_of : (g : Geometry) (live : Live) (id q : ℕ) → file_page (has_of g live id) ≡ Some q → IsWhole g live id q
+pub whole_of : (g : Geometry) (live : Live) (id q : ℕ) → file_page (has_of g live id) ≡ Some q → IsWhole g live id q
 unfolding has_of found
 whole_of g live id q e = whole_at g live id q (index_page g (own live id) 0) refl e
 

@@ -6,3 +6,4 @@ pub mod Tallied
 pub mod Wanting
 pub mod Leading
 pub mod Spoiled
+pub mod Marked

@@ -7,11 +7,13 @@ ghost use Rattle.image_model.specs.Tables.{has_of as the_has, is_named as the_na
 ghost use Rattle.image_plain.specs.Seen.{file};
 ghost use Rattle.image_plain.specs.Headed.{IsHeads};
 ghost use Rattle.image_plain.specs.Leading.{AreFiles};
+ghost use Rattle.image_plain.specs.Marked.{AreMarked};
 
 use crate::Record;
 use crate::files::found;
 use crate::headers::header_pages;
-use crate::table::{counts, earlier};
+use crate::marks::{leads, name_marks};
+use crate::table::earlier;
 use crate::wholes::file_pages;
 use geometry::Geometry;
 use image_model::Damage;
@@ -44,12 +46,14 @@ fn damage(
     image: &[u8],
     heads: &[Option<u32>],
     files: &[Option<u32>],
+    marks: &[u16],
     n: u16,
     id: u16,
 ) -> Result<Option<(u16, Damage)>, AllocError>
     requires image { IsImage g.now image.now }
     requires heads { IsHeads g.now (the_live_at g.now image.now) heads.now }
     requires files { AreFiles g.now (the_live_at g.now image.now) 0x8000 files.now }
+    requires marks { AreMarked (the_has g.now (the_live_at g.now image.now)) (n + 1) marks.now }
     requires fits { n ≤ 0x7FFF }
     requires id { id < 0x8000 }
     ensures { IfOk result (λ d. d ≡ the_damage (the_has g.now (the_live_at g.now image.now)) n id (the_has g.now (the_live_at g.now image.now) id)) }
@@ -61,7 +65,7 @@ fn damage(
         Ok(record) => record,
         Err(cause) => return Ok(Some((id, cause))),
     };
-    if counts(g, image, files, n, p, record.name.as_slice()) {
+    if leads(g, image, files, marks, n, id, p, record.name.as_slice()) {
         return Ok(None);
     }
     let other = holder(g, image, files, n, record.name.as_slice());
@@ -76,17 +80,19 @@ pub(crate) fn damages(
     image: &[u8],
     heads: &[Option<u32>],
     files: &[Option<u32>],
+    marks: &[u16],
     n: u16,
 ) -> Result<Vec<(u16, Damage)>, AllocError>
     requires image { IsImage g.now image.now }
     requires heads { IsHeads g.now (the_live_at g.now image.now) heads.now }
     requires files { AreFiles g.now (the_live_at g.now image.now) 0x8000 files.now }
+    requires marks { AreMarked (the_has g.now (the_live_at g.now image.now)) (n + 1) marks.now }
     requires fits { n ≤ 0x7FFF }
     ensures { IfOk result (λ damages. damages.items ≡ the_damages (the_has g.now (the_live_at g.now image.now)) n) }
 {
     let mut damages = Vec::new(alloc);
     for id in 1..n + 1 {
-        if let Some(cause) = damage(alloc, g, image, heads, files, n, id)? {
+        if let Some(cause) = damage(alloc, g, image, heads, files, marks, n, id)? {
             damages.push(cause)?;
         }
     }
@@ -106,5 +112,14 @@ pub fn damaged_of(
 {
     let heads = header_pages(alloc, g, image)?;
     let files = file_pages(alloc, g, image, heads.as_slice())?;
-    damages(alloc, g, image, heads.as_slice(), files.as_slice(), 0x7FFF)
+    let marks = name_marks(alloc, g, image, files.as_slice(), 0x7FFF)?;
+    damages(
+        alloc,
+        g,
+        image,
+        heads.as_slice(),
+        files.as_slice(),
+        marks.as_slice(),
+        0x7FFF,
+    )
 }

@@ -1,9 +1,11 @@
 // The pages of a file, and its bytes. Here `head` is the bytes of the file's header page.
-ghost use Rattle.std.specs.Prelude.{◌≡◌, ◌==◌, ℕ, ◌+◌, ◌*◌, ◌<◌, ◌≤◌, ◌^◌, length, option_copied, position, IfSome, IfOk};
+ghost use Rattle.std.specs.Prelude.{◌≡◌, ◌==◌, ◌&&◌, ℕ, ◌+◌, ◌*◌, ◌%◌, ◌<◌, ◌≤◌, ◌^◌, Some, length, option_copied, position, IfSome, IfOk};
+ghost use Rattle.geometry.specs.Numbers.{page_count};
+ghost use Rattle.nor_core.specs.Flash.{word_at};
 ghost use Rattle.image_model.specs.Places.{IsImage};
 ghost use Rattle.image_model.specs.Headers.{size_of as the_size, name_of as the_name};
 ghost use Rattle.image_model.specs.Live.{live_at as the_live_at, own as the_own};
-ghost use Rattle.image_model.specs.Files.{index_page as the_index_page, entry_number as the_entry_number, data_page as the_data_page, first_missing as the_first_missing, bytes_of as the_bytes, span_bytes as the_span_bytes, judged as the_judged};
+ghost use Rattle.image_model.specs.Files.{is_index, index_page as the_index_page, entry_number as the_entry_number, data_page as the_data_page, first_missing as the_first_missing, bytes_of as the_bytes, span_bytes as the_span_bytes, judged as the_judged};
 ghost use Rattle.image_model.specs.Tables.{has_of as the_has};
 ghost use Rattle.table_model.specs.Room.{data_pages as the_data_pages};
 ghost use Rattle.image_plain.specs.Seen.{seen, seen_at};
@@ -11,10 +13,32 @@ ghost use Rattle.image_plain.specs.Headed.{IsHeads};
 
 use crate::Record;
 use crate::headers::header_of;
-use crate::pages::{own, word};
+use crate::pages::{is_live, own, page_of, word};
 use geometry::Geometry;
 use image_model::Damage;
 use std::alloc::{AllocError, Global};
+
+// Whether a page is an index page of that span of an id by its own bytes.
+fn is_index_of(page: &[u8], id: u16, span: u32) -> bool
+    requires { 5 ≤ length page.now }
+    ensures { result ≡ (is_index (Some page.now) span && (word_at page.now 0 % 0x8000 == id)) }
+{
+    let head = word(page, 0);
+    head >= 0x8000 && head % 0x8000 == id && word(page, 2) as u32 == span
+}
+
+// Whether a page is a live index page of that span of an id. Its own bytes are looked at first, since few pages pass that.
+#[tactic(auto, using(crate::proofs::Headed::index_told))]
+fn is_live_index(g: &Geometry, image: &[u8], id: u16, span: u32, p: u32) -> bool
+    requires image { IsImage g.now image.now }
+    requires number { p < page_count g.now }
+    ensures { result ≡ is_index (the_own (the_live_at g.now image.now) id p) span }
+{
+    if !is_index_of(page_of(g, image, p), id, span) {
+        return false;
+    }
+    is_live(g, image, p)
+}
 
 /// The number of the index page of that span: the first such live page of the id in page order. That of span 0 is
 /// the header page.
@@ -24,10 +48,8 @@ pub fn index_page(g: &Geometry, image: &[u8], id: u16, span: u32) -> Option<u32>
     ensures { result ≡ the_index_page g.now (the_own (the_live_at g.now image.now) id) span }
 {
     for p in 0..g.pages() {
-        if let Some(page) = own(g, image, id, p) {
-            if word(page, 0) >= 0x8000 && word(page, 2) as u32 == span {
-                return Some(p);
-            }
+        if is_live_index(g, image, id, span, p) {
+            return Some(p);
         }
     }
     None

@@ -7,6 +7,7 @@ mod counts;
 mod damaged;
 mod files;
 mod headers;
+mod marks;
 mod meaning;
 mod pages;
 mod record;

@@ -9,6 +9,7 @@ ghost use Rattle.image_plain.specs.Headed.{IsHeads};
 use crate::Record;
 use crate::damaged::damages;
 use crate::headers::{header_of, header_pages};
+use crate::marks::name_marks;
 use crate::table::records;
 use crate::wholes::file_pages;
 use geometry::Geometry;
@@ -50,8 +51,25 @@ pub fn meaning_of(alloc: Global, g: &Geometry, image: &[u8]) -> Result<Meaning, 
     let heads = header_pages(alloc, g, image)?;
     let files = file_pages(alloc, g, image, heads.as_slice())?;
     let top = greatest(heads.as_slice());
+    let marks = name_marks(alloc, g, image, files.as_slice(), top)?;
     Ok(Meaning {
-        table: records(alloc, g, image, heads.as_slice(), files.as_slice(), top)?,
-        damaged: damages(alloc, g, image, heads.as_slice(), files.as_slice(), top)?,
+        table: records(
+            alloc,
+            g,
+            image,
+            heads.as_slice(),
+            files.as_slice(),
+            marks.as_slice(),
+            top,
+        )?,
+        damaged: damages(
+            alloc,
+            g,
+            image,
+            heads.as_slice(),
+            files.as_slice(),
+            marks.as_slice(),
+            top,
+        )?,
     })
 }

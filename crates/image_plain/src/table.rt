@@ -7,10 +7,12 @@ ghost use Rattle.image_model.specs.Tables.{has_of as the_has, is_before as the_b
 ghost use Rattle.image_plain.specs.Seen.{seen_at, file};
 ghost use Rattle.image_plain.specs.Headed.{IsHeads};
 ghost use Rattle.image_plain.specs.Leading.{AreFiles, earlier as the_earlier};
+ghost use Rattle.image_plain.specs.Marked.{AreMarked};
 
 use crate::Record;
 use crate::files::found;
 use crate::headers::{header_of, header_pages};
+use crate::marks::{leads, name_marks};
 use crate::wholes::{file_pages, has_name};
 use geometry::Geometry;
 use image_model::Damage;
@@ -86,19 +88,21 @@ pub(crate) fn counted(
     image: &[u8],
     heads: &[Option<u32>],
     files: &[Option<u32>],
+    marks: &[u16],
     n: u16,
     id: u16,
 ) -> Result<Option<Record>, AllocError>
     requires image { IsImage g.now image.now }
     requires heads { IsHeads g.now (the_live_at g.now image.now) heads.now }
     requires files { AreFiles g.now (the_live_at g.now image.now) 0x8000 files.now }
+    requires marks { AreMarked (the_has g.now (the_live_at g.now image.now)) (n + 1) marks.now }
     requires fits { n ≤ 0x7FFF }
     requires id { id < 0x8000 }
     ensures { IfOk result (λ r. option_map file r ≡ the_counted (the_has g.now (the_live_at g.now image.now)) n (the_has g.now (the_live_at g.now image.now) id)) }
 {
     match found(alloc, g, image, heads, id)? {
         Some((p, Ok(r))) => {
-            if counts(g, image, files, n, p, r.name.as_slice()) {
+            if leads(g, image, files, marks, n, id, p, r.name.as_slice()) {
                 Ok(Some(r))
             } else {
                 Ok(None)
@@ -116,17 +120,19 @@ pub(crate) fn records(
     image: &[u8],
     heads: &[Option<u32>],
     files: &[Option<u32>],
+    marks: &[u16],
     n: u16,
 ) -> Result<Vec<Record>, AllocError>
     requires image { IsImage g.now image.now }
     requires heads { IsHeads g.now (the_live_at g.now image.now) heads.now }
     requires files { AreFiles g.now (the_live_at g.now image.now) 0x8000 files.now }
+    requires marks { AreMarked (the_has g.now (the_live_at g.now image.now)) (n + 1) marks.now }
     requires fits { n ≤ 0x7FFF }
     ensures { IfOk result (λ records. map file records.items ≡ the_records (the_has g.now (the_live_at g.now image.now)) n) }
 {
     let mut records = Vec::new(alloc);
     for id in 1..n + 1 {
-        if let Some(record) = counted(alloc, g, image, heads, files, n, id)? {
+        if let Some(record) = counted(alloc, g, image, heads, files, marks, n, id)? {
             records.push(record)?;
         }
     }
@@ -142,5 +148,14 @@ pub fn table_of(alloc: Global, g: &Geometry, image: &[u8]) -> Result<Vec<Record>
 {
     let heads = header_pages(alloc, g, image)?;
     let files = file_pages(alloc, g, image, heads.as_slice())?;
-    records(alloc, g, image, heads.as_slice(), files.as_slice(), 0x7FFF)
+    let marks = name_marks(alloc, g, image, files.as_slice(), 0x7FFF)?;
+    records(
+        alloc,
+        g,
+        image,
+        heads.as_slice(),
+        files.as_slice(),
+        marks.as_slice(),
+        0x7FFF,
+    )
 }

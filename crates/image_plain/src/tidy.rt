@@ -12,11 +12,13 @@ ghost use Rattle.image_model.specs.Killed.{is_used as the_used, is_killable as t
 ghost use Rattle.table_model.specs.Room.{data_pages as the_data_pages, index_pages as the_index_pages};
 ghost use Rattle.image_plain.specs.Headed.{IsHeads};
 ghost use Rattle.image_plain.specs.Leading.{AreFiles};
+ghost use Rattle.image_plain.specs.Marked.{AreMarked};
 ghost use Rattle.image_plain.specs.Wanting.{AreWanted, is_whole as the_whole, AreWhole};
 
 use crate::blocks::is_free_entry;
 use crate::files::{data_pages, entry_number, index_page, size_of};
 use crate::headers::{header_of, header_pages};
+use crate::marks::name_marks;
 use crate::pages::{entry_of, has_magic, live_at, own, page_of, word};
 use crate::table::counted;
 use crate::wholes::file_pages;
@@ -114,15 +116,17 @@ fn is_whole(
     image: &[u8],
     heads: &[Option<u32>],
     files: &[Option<u32>],
+    marks: &[u16],
     id: u16,
 ) -> Result<bool, AllocError>
     requires image { IsImage g.now image.now }
     requires heads { IsHeads g.now (the_live_at g.now image.now) heads.now }
     requires files { AreFiles g.now (the_live_at g.now image.now) 0x8000 files.now }
+    requires marks { AreMarked (the_has g.now (the_live_at g.now image.now)) 0x8000 marks.now }
     requires id { id < 0x8000 }
     ensures { IfOk result (λ yes. yes ≡ the_whole g.now image.now id) }
 {
-    match counted(alloc, g, image, heads, files, 0x7FFF, id)? {
+    match counted(alloc, g, image, heads, files, marks, 0x7FFF, id)? {
         Some(_record) => Ok(true),
         None => Ok(false),
     }
@@ -141,9 +145,18 @@ fn whole_ids(
     ensures { IfOk result (λ whole. AreWhole g.now image.now 0x8000 whole.items) }
 {
     let files = file_pages(alloc, g, image, heads)?;
+    let marks = name_marks(alloc, g, image, files.as_slice(), 0x7FFF)?;
     let mut whole = Vec::new(alloc);
     for id in 0..0x8000u16 {
-        whole.push(is_whole(alloc, g, image, heads, files.as_slice(), id)?)?;
+        whole.push(is_whole(
+            alloc,
+            g,
+            image,
+            heads,
+            files.as_slice(),
+            marks.as_slice(),
+            id,
+        )?)?;
     }
     Ok(whole)
 }
