@@ -163,6 +163,8 @@ fn each_way_to_replace_a_file_has_its_verdict(rt: HostRuntime) -> Result<(), Fai
     let g = Geometry::new(256, 4096, 16, 4096, 0, MagicKind::Length)?;
     let files = files(rt.alloc())?;
     for (script, wanted) in SCRIPTS.iter() {
+        // (`rehearse` takes fewer than 2 ^ 31 bytes)
+        assert!(rt; script.len() < 4096);
         let verdict = rehearse(rt.alloc(), g, files.as_slice(), 2, script.as_bytes())?;
         assert!(rt;
             tells(&verdict) == *wanted,

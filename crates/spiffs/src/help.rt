@@ -122,10 +122,14 @@ file, -10030 and -10023 the file is there, -10022 the descriptor does not read,
 -10021 it does not write, -11002 the place is not in the file, -11003 fewer than
 two blocks are free, -10001 the volume is full.
 
-Promises are comments of a script for rehearse. `#! first NAME NAME ..`: up to
-a line `#! end` one who reads the first of these files that is there finds what
-he finds here, or at the end. `#! some NAME NAME ..`: one of these is there.
-`#! kept NAME`: it is there with the bytes that it has here.
+Promises are comments of a script, which `rehearse` judges.
+
+  #! first NAME NAME ..
+                up to a line `#! end` the first of these that is there has the
+                bytes that it has here, or those that it has at that line
+  #! some NAME NAME ..
+                one of these is there
+  #! kept NAME  this one is there with the bytes that it has here
 
 A list is a line `ID TYPE SIZE NAME` for each file, then for each damaged id
 `damaged ID span S`, `damaged ID name` or `damaged ID same ID2`.
@@ -143,9 +147,6 @@ that did what was asked, those that were refused, files and bytes in the end.
 A scrub is a line `moved N free F`: blocks whose files were moved, and that
 were erased, and free blocks in the end.
 
-A rehearsal is a line `promises P tables T`: promises, and the tables that keep
-them; or the files of a table that breaks one, then its promise, line and step.
-
 A map is a line `SPAN PAGE` for each data page of the file, at most 4096: its
 number in the file, from 0, and the page of the volume that holds it.
 
@@ -160,6 +161,11 @@ the META that reads most whole files, or `M1-M2` where several read as many.
 
 A trace is a line `legal E events R replies`: programs, erases and prints, each
 of which leaves what a power cut may leave, and whole replies.
+
+A rehearsal is a line `promises P tables T`: promises, and tables that a power
+cut may leave, which all keep them; or the files of the first that breaks one,
+and a line that tells which. With `tables` a line `line L step S` for each table
+stands before that, with its files below it.
 
 Statuses: 0 all was done; 1 usage; 2 numbers or device refused; 3 no volume; 4
 blocks hold pages of both kinds, and too few are free to part them: extract the
