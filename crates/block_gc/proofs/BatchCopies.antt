@@ -6,6 +6,7 @@ use Rattle.std.proofs.lemmas.List.{drop-take, get_or-take, get_or-drop, length-m
 use Rattle.std.proofs.lemmas.List.Elements.{All-map}
 use Rattle.geometry.specs.declared.geometry.Geometry.{Geometry}
 use Rattle.table_model.specs.declared.error.Tag.{Tag}
+use Rattle.trim_laws.proofs.Pages.{data_trims}
 use Rattle.flash_view.specs.declared.kinds.Kind.TheVariants.{Data}
 use Rattle.flash_view.specs.Steps.{Finishes}
 use Rattle.image_model.specs.Within.{sizes, page_length, entry_of_block}
@@ -298,4 +299,4 @@ module _ (g : Geometry) (was image : List ℕ) (block most : ℕ) (batch : Batch
       }
 
   pub copy_puts : Finishes g image image (putting to Data tag work) (carrying_to was block most batch cs q to span)
-  copy_puts = record { needs = record { free = can.free; ready = copy_ready }; cut = λ c put. copy_left c put; done = λ c ok put. copy_done c put }
+  copy_puts = record { needs = record { free = can.free; ready = copy_ready; trim = data_trims g new new_kind }; cut = λ c put. copy_left c put; done = λ c ok put. copy_done c put }

@@ -11,6 +11,10 @@ use Rattle.geometry.specs.Numbers.{head_slots}
 use Rattle.table_model.specs.declared.error.Tag.{Tag}
 use Rattle.table_model.specs.Table.{File}
 use Rattle.table_model.specs.Room.{data_pages}
+use Rattle.trim_laws.specs.Steps.{IsTrimHead}
+use Rattle.trim_laws.proofs.Pages.{flags_trimmed}
+use Rattle.page_renew.proofs.Trimmed.{flags_alone, span_zero, copied_size, copied_trims}
+use Rattle.block_gc.proofs.NamesTrimmed.{names_trimmed}
 use Rattle.flash_view.specs.declared.kinds.Kind.TheVariants.{Index}
 use Rattle.flash_view.specs.Steps.{Finishes}
 use Rattle.image_model.specs.declared.damage.Damage.{Damage}
@@ -431,10 +435,28 @@ module _ (g : Geometry) (was image : List ℕ) (block most : ℕ) (batch : Batch
             counts = counts_then g was image b6 c.counts (replaced_counts all);
           }
 
+    -- the renewed page names no page behind the last one of the file
+    renamed_trim : IsTrimHead g new
+    renamed_trim header =
+        let zero : span_of old ≡ 0 = sym leads.reindexes.new_span ∙ span_zero new header in
+        let place : w ≡ h = same_Some w h (sym first4 ∙ ap (index_page g pages4) zero ∙ c.beside.at) in
+        let same : old ≡ head = same_Some old head (sym w4 ∙ ap pages4 place ∙ c.beside.header) in
+        let y : List ℕ = take g.page copy.plain in
+        let of_head : span_of old ≡ 0 → count_of g image (obj_id old % 0x8000) ≡ data_pages g (size_of old) = λ none. count ∙ ap (λ (l : List ℕ). data_pages g (size_of l)) (sym same) in
+        let size : size_of y ≡ size_of head = copied_size g old y (count_of g image (obj_id old % 0x8000)) copy.built.copied of_head zero ∙ ap size_of same in
+        flags_trimmed g (take g.page work) new (flags_alone (take g.page work) new sets)
+        (names_trimmed g (span_of old) zero y cs (take g.page work) copy.named
+        (all_from (λ (x : Carried). (x.span < data_pages g (size_of y)) × (index_span g x.span ≡ span_of old)) cs (λ x one.
+        let t = all_at (λ (x : Carried). IsThere g pages4 head (span_of old) x) cs x there one in
+        let fewer : data_pages g (size_of y) ≡ data_pages g (size_of head) = ap (λ (n : ℕ). data_pages g n) size in
+        let low = t.low in
+        (omega (arith, fewer, low), t.at)))
+        (copied_trims g old y (count_of g image (obj_id old % 0x8000)) copy.built.copied of_head zero)).0
+
     pub rename_puts : Finishes g image image (replacing to w tag work) (renaming_to was block most batch page to cs)
     rename_puts = record {
       needs = record {
-        put = record { free = can.free; ready = index_ready g tag work (take g.page work) placed_is page_len small range };
+        put = record { free = can.free; ready = index_ready g tag work (take g.page work) placed_is page_len small range; trim = renamed_trim };
         kill = record { live = ap is_some copy.built.live; byte = copy.built.flags };
       };
       cut = λ d cut. cut_by d cut;

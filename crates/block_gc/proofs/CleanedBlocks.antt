@@ -14,6 +14,7 @@ use Rattle.image_laws.proofs.Frames.{live_parts, table_of-same}
 use Rattle.image_laws.proofs.Matching.{filter-none_in}
 use Rattle.image_laws.proofs.Sounding.{keeps-on}
 use Rattle.renew_laws.proofs.TailSteps.{tail-stays}
+use Rattle.trim_laws.proofs.Trims.{block_trims}
 use Rattle.flash_view.specs.Steps.{Begins, Finishes, acting}
 use Rattle.flash_view.specs.declared.counts.BlockCounts.{BlockCounts}
 use Rattle.flash_view.specs.Counts.{AreCounts}
@@ -114,7 +115,7 @@ module _ (g : Geometry) (a b : List ℕ) (block count : ℕ) (is_a : IsImage g a
 
   pub freshens : Finishes g a b (acting (λ h. Freshens h block) (λ h. IsFresh h block count)) (cleaning_block block)
   freshens = record {
-    needs = tt;
+    needs = λ c cut. block_trims g b c block cut.outside cut.dead;
     cut = λ c cut. record { keeps = keeps-on g a b c empty.keeps (fresh_keeps g block b empty.can.tidy dead is_b c cut); mends = fresh_mends c cut };
     done = λ c ok fresh. cleaned c fresh;
   }

@@ -13,6 +13,7 @@ pub mod CleanedBlocks
 pub mod BatchCopies
 pub mod BatchPlaces
 pub mod BatchNames
+pub mod NamesTrimmed
 pub mod BatchRenews
 pub mod BatchCalls
 pub mod BatchDrops

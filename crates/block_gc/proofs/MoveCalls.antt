@@ -17,7 +17,7 @@ use Rattle.page_put.specs.LivePages.{finished_page, killing, putting}
 use Rattle.page_renew.specs.Built.{IsBuilt}
 use Rattle.page_renew.proofs.IndexCopies.{high_id}
 use Rattle.block_gc.specs.Moves.{CanMove, moving}
-use Rattle.block_gc.proofs.MovedIndexes.{moved_ready, move_left, moved_done}
+use Rattle.block_gc.proofs.MovedIndexes.{moved_ready, moved_trim, move_left, moved_done}
 use Rattle.block_gc.proofs.Replacing.{flags_stay, not_put, still_live}
 
 -- the id of a copy is that of a file
@@ -36,7 +36,7 @@ id_range g a o tag work built =
 module _ (g : Geometry) (a : List ℕ) (o p : ℕ) (tag : Tag) (work : List ℕ) (is : IsImage g a) (can : CanMove g a o p) (built : IsBuilt g a o tag work) where
   pub puts : Begins g a (putting p Index tag work) (moving o p)
   puts = record {
-    needs = record { free = can.free; ready = moved_ready g a o p tag work is can built (id_range g a o tag work built) };
+    needs = record { free = can.free; ready = moved_ready g a o p tag work is can built (id_range g a o tag work built); trim = moved_trim g a o p tag work is can built };
     cut = λ c h. move_left g a o p tag work is can built c (inl h);
   }
 

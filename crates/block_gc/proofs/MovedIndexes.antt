@@ -2,10 +2,13 @@
 use Rattle.std.proofs.Common.{◌≡◌, ℕ, ◌%◌, ◌<◌, ◌≤◌, Option, List, [], ◌∷◌, length, take, set, slice_range, Some, ap, refl, sym, ◌∙◌, arith, ⊎_elim, inl, subst}
 use Rattle.std.specs.Prelude.{unwrap_or}
 use Rattle.std.proofs.lemmas.List.{get_or-take}
+use Rattle.std.proofs.lemmas.Option.{same_Some}
 use Rattle.geometry.specs.declared.geometry.Geometry.{Geometry}
 use Rattle.geometry.specs.Numbers.{head_slots}
 use Rattle.table_model.specs.declared.error.Tag.{Tag}
 use Rattle.table_model.specs.Room.{data_pages}
+use Rattle.trim_laws.specs.Steps.{IsTrimHead}
+use Rattle.page_renew.proofs.Trimmed.{copied_head}
 use Rattle.flash_view.specs.declared.kinds.Kind.TheVariants.{Index}
 use Rattle.image_model.specs.Within.{page_length}
 use Rattle.image_model.specs.Headers.{obj_id, span_of, size_of}
@@ -89,6 +92,16 @@ module _ (g : Geometry) (a0 : List ℕ) (o p : ℕ) (tag : Tag) (work : List ℕ
 
   pub moved_ready : (1 ≤ tag.id) × (tag.id ≤ 0x7FFE) → IsReadyPage g (placed_page g Index tag work) 0xF8
   moved_ready = index_ready g tag work (take g.page work) (built_page g a0 o tag work is built) (built.copied.size ∙ len) (λ k below. rw (get_or-take g.page work k 0 below) (built.small k below))
+
+  -- the copy names no page behind the last one of its file
+  pub moved_trim : IsTrimHead g new
+  moved_trim = copied_head g old (take g.page work) (count_of g a0 id) built.copied of_head new sets
+    where
+      of_head : span_of old ≡ 0 → count_of g a0 id ≡ data_pages g (size_of old)
+      of_head zero =
+          let place : o ≡ home.h = same_Some o home.h (sym first ∙ ap (index_page g (own (live_at g a0) id)) zero ∙ home.at) in
+          let same : old ≡ home.head = same_Some old home.head (sym mine ∙ ap (own (live_at g a0) id) place ∙ home.header) in
+          count ∙ ap (λ (l : List ℕ). data_pages g (size_of l)) (sym same)
 
   start : RecopiesTo g a0 p o id home.h old new home.head pages.0 home.f home.f
   start = record { undamaged = can.neat.undamaged; inside = can.free.entry_page; kind = of_kind g a0 p new can.kind pages.1.new_index; pages = pages.1 }

@@ -6,23 +6,24 @@ ghost use Rattle.flash_view.specs.Same.{StaysBehind};
 ghost use Rattle.vol_mount.specs.Readers.{IsSameReader};
 ghost use Rattle.volume.specs.Same.{IsSameVolume};
 ghost use Rattle.tool_parts.specs.declared.ending.Ending.{Ending as TheEnding};
+ghost use Rattle.tool_parts.specs.Among.{EndsAmong};
 ghost use Rattle.tool_parts.specs.Closing.{status_of};
 ghost use Rattle.tool_parts.specs.Fits.{IsFitting, HoldsVolume, HasLengths};
 ghost use Rattle.tool_parts.specs.Later.{IsLaterStatus};
 ghost use Rattle.tool_parts.specs.Lent.{lengths_of};
 ghost use Rattle.tool_parts.specs.Reads.{ReadsOnce};
 ghost use Rattle.tool_parts.specs.Refusals.{check_refusal};
+ghost use Rattle.copy_tool.specs.Among.{MayEndCopy};
 ghost use Rattle.copy_tool.specs.Does.{CopyLeaves, HasAll, DoesCopy};
 ghost use Rattle.copy_tool.specs.Steps.{CopiesAs, CopiesTo};
 
-use crate::beginning::begin;
 use crate::ending::{copied_line, copy_ending, end_of_copy};
 use crate::plan::CopyPlan;
 use crate::surveying::survey;
 use copy_model::Copied;
 use geometry::Geometry;
 use nor_core::{Board, Failed, Nor, NorState};
-use tool_parts::{Buffers, Ending, conclude};
+use tool_parts::{Buffers, Ending, begin, conclude};
 use vol_copy::copy_all;
 use vol_mount::{Lent, Reader};
 use volume::Volume;
@@ -38,6 +39,7 @@ fn copy_files<N: Nor, B: Board>(
     requires slots { 1 ≤ length to.old.slots.now }
     requires piece { 4096 ≤ length piece.old }
     ensures later { IfErr result (λ ending. IsLaterStatus (status_of ending)) }
+    ensures among { IfErr result MayEndCopy }
     ensures reads { OnlyReads N.NorState from.old.nor.now from.new.nor.now }
     ensures same_source { IsSameReader from.old from.new }
     ensures same { IsSameVolume to.old to.new }
@@ -72,6 +74,7 @@ fn copy_volumes<N: Nor, B: Board>(
     requires slots { 1 ≤ length to.old.slots.now }
     requires line { 12288 ≤ length line.old }
     ensures later { IsLaterStatus (status_of result) }
+    ensures among { MayEndCopy result }
     ensures reads { OnlyReads N.NorState from.old.nor.now from.new.nor.now }
     ensures same_source { IsSameReader from.old from.new }
     ensures same { IsSameVolume to.old to.new }
@@ -113,6 +116,7 @@ fn copy_boards<'a, 'b, N: Nor, B: Board>(
     requires check { check_need plan.target ≤ length lent.check.now }
     requires line { 12288 ≤ length line.old }
     ensures later { IsLaterStatus (status_of result) }
+    ensures among { MayEndCopy result }
     ensures reads { OnlyReads N.NorState source.old source.new }
     ensures cause { result ≡ Ending.BoardFault → Rose (B.faults board.old) (B.faults board.new) }
     ensures source_cause { result ≡ Ending.SourceChipFault → Rose (N.faults source.old) (N.faults source.new) }
@@ -139,6 +143,7 @@ pub(crate) fn copy_on<N: Nor, B: Board>(
     requires fits { IsFitting plan.target (B.unit board.old) (B.size board.old) }
     requires room { HasLengths plan.target (lengths_of bufs.old) }
     ensures later { IsLaterStatus result }
+    ensures ends { EndsAmong B.NorState MayEndCopy board.old board.new result }
     ensures reads { OnlyReads N.NorState source.old source.new }
     ensures board_fault { result ≡ 7 → Rose (B.faults board.old) (B.faults board.new) }
     ensures source_fault { result ≡ 18 → Rose (N.faults source.old) (N.faults source.new) }

@@ -2,7 +2,6 @@
 //! written, and lent memory for each in; a status out, and what the second device said.
 #![tactic(auto)]
 
-mod beginning;
 mod copying;
 mod ending;
 mod plan;

@@ -3,6 +3,7 @@ ghost use Rattle.nor_core.specs.Count.{Rose};
 ghost use Rattle.nor_core.specs.Device.{OnlyReads};
 ghost use Rattle.image_model.specs.Tables.{damaged_of};
 ghost use Rattle.vol_mount.specs.Readers.{IsSameReader};
+ghost use Rattle.copy_tool.specs.Among.{MayEndCopy};
 ghost use Rattle.copy_tool.specs.Steps.{source_ends, IsSurveyed, StopsSurvey};
 ghost use Rattle.tool_parts.specs.Closing.{status_of};
 ghost use Rattle.tool_parts.specs.Later.{IsLaterStatus};
@@ -44,6 +45,7 @@ fn count_damaged<N: Nor>(from: &mut Reader<'_, N>) -> Result<u32, FsErr>
 /// Mounts the source, and counts its damaged ids; or says how the copy ends there.
 pub(crate) fn survey<N: Nor>(from: &mut Reader<'_, N>) -> Result<u32, Ending>
     ensures later { IfErr result (λ ending. IsLaterStatus (status_of ending)) }
+    ensures among { IfErr result MayEndCopy }
     ensures board { ¬ (result ≡ Err Ending.BoardFault) }
     ensures cause { result ≡ Err Ending.SourceChipFault → Rose (N.faults from.old.nor.now) (N.faults from.new.nor.now) }
     ensures reads { OnlyReads N.NorState from.old.nor.now from.new.nor.now }

@@ -1,9 +1,11 @@
 ghost use Rattle.std.specs.Prelude.{◌≡◌, length, map, string_bytes, is_none, None};
 ghost use Rattle.nor_core.specs.Count.{Rose};
 ghost use Rattle.nor_core.specs.Device.{OnlyReads};
+ghost use Rattle.tool_parts.specs.Among.{EndsAmong};
 ghost use Rattle.tool_parts.specs.Endings.{RefusesIf};
 ghost use Rattle.copy_tool.specs.declared.plan.CopyPlan.{CopyPlan};
 ghost use Rattle.copy_tool.specs.Plan.{side_of, asked_of, copy_refusal_of, IsPlanned};
+ghost use Rattle.copy_tool.specs.Among.{MayEndCopy};
 ghost use Rattle.copy_tool.specs.Does.{DoesCopy};
 
 use crate::copying::copy_on;
@@ -59,6 +61,9 @@ pub fn copy_tool<N: Nor, B: Board>(
     // .. and it is done.
     ensures does { (plan : CopyPlan) → IsPlanned (asked_of N.NorState B.NorState (map string_bytes words.now) source.old board.old source_bufs.old bufs.old) plan →
         DoesCopy N.NorState B.NorState plan.source plan.target (length source_bufs.old.cache.now) (length bufs.old.cache.now) source.old source.new board.old board.new result }
+    // Whatever the devices tell, it comes to one of the endings of a copy, and says the closing line of that last.
+    ensures ends { (plan : CopyPlan) → IsPlanned (asked_of N.NorState B.NorState (map string_bytes words.now) source.old board.old source_bufs.old bufs.old) plan →
+        EndsAmong B.NorState MayEndCopy board.old board.new result }
     // The source is only read, refused or not.
     ensures reads { OnlyReads N.NorState source.old source.new }
     // A fault is told only where one was counted.

@@ -4,7 +4,7 @@ use Rattle.std.proofs.lemmas.Bool.{cases_lt, lt-ltb}
 use Rattle.std.proofs.lemmas.Option.{none-some}
 use Rattle.detect_tool.specs.declared.memory.Lengths.{Lengths}
 use Rattle.detect_tool.specs.declared.memory.Part.{Part}
-use Rattle.detect_tool.specs.declared.memory.Part.TheVariants.{Chip, Words, Work, Cache, Check, Found}
+use Rattle.detect_tool.specs.declared.memory.Part.TheVariants.{Chip, Words, Work, Check, Found}
 use Rattle.detect_tool.specs.declared.refusing.Refusal.{Refusal}
 use Rattle.detect_tool.specs.declared.refusing.Refusal.TheVariants.{Usage, Short}
 use Rattle.detect_tool.specs.Words.{is_command}
@@ -30,16 +30,14 @@ unfolding length_refusal
 enough size lent is =
     let a = both_none (shorter Chip size lent.chip) _ is in
     let b = both_none (shorter Words (12 * (size / 4096)) lent.words) _ a.1 in
-    let c = both_none (shorter Work 1048576 lent.work) _ b.1 in
-    let d = both_none (shorter Cache 4104 lent.cache) _ c.1 in
-    let e = both_none (shorter Check 73727 lent.check) _ d.1 in
+    let c = both_none (shorter Work 557056 lent.work) _ b.1 in
+    let d = both_none (shorter Check 65535 lent.check) _ c.1 in
     record {
       chip = long_enough Chip size lent.chip a.0;
       words = long_enough Words (12 * (size / 4096)) lent.words b.0;
-      work = let w = long_enough Work 1048576 lent.work c.0 in omega (arith, w);
-      cache = long_enough Cache 4104 lent.cache d.0;
-      check = long_enough Check 73727 lent.check e.0;
-      found = long_enough Found (84 * (size / 4096)) lent.found e.1;
+      work = long_enough Work 557056 lent.work c.0;
+      check = long_enough Check 65535 lent.check d.0;
+      found = long_enough Found (84 * (size / 4096)) lent.found d.1;
     }
 
 by_words : (b : Bool) (size : ℕ) (lent : Lengths) → (if b then length_refusal size lent else Some Usage) ≡ None → HasLengths size lent

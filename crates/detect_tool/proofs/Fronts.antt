@@ -1,5 +1,5 @@
 -- What is found of a tidy volume that a chip begins with.
-use Rattle.std.proofs.Common.{◌≡◌, ℕ, List, length, drop, ap, ◌∙◌, subst, arith}
+use Rattle.std.proofs.Common.{◌≡◌, ℕ, List, length, drop, ap, refl, ◌∙◌, subst, arith}
 use Rattle.geometry.specs.declared.geometry.Geometry.{Geometry}
 use Rattle.image_model.specs.Tables.{damaged_of}
 use Rattle.image_model.specs.Tidy.{IsTidy}
@@ -14,13 +14,14 @@ pub tidy_found : (file : List ℕ) (g : Geometry) → IsTidy g file → BeginsWi
 tidy_found file g tidy begins = front_found file g (record { block = begins.block; phys = begins.phys; ends = begins.ends; magics = λ b low. tidy.magic b low })
 
 -- the same numbers as the same numbers
-same_as : (a b c : Geometry) → SameBut a b → SameBut b c → SameBut a c
+pub same_as : (a b c : Geometry) → SameBut a b → SameBut b c → SameBut a c
 same_as a b c one two = record {
-  page = two.page ∙ one.page;
-  block = two.block ∙ one.block;
-  blocks = two.blocks ∙ one.blocks;
-  phys = two.phys ∙ one.phys;
-  magic = two.magic ∙ one.magic;
+  page_is = two.page_is ∙ one.page_is;
+  block_is = two.block_is ∙ one.block_is;
+  blocks_is = two.blocks_is ∙ one.blocks_is;
+  phys_is = two.phys_is ∙ one.phys_is;
+  meta_is = refl;
+  magic_is = two.magic_is ∙ one.magic_is;
 }
 
 pub tidy_told : (file : List ℕ) (g : Geometry) (f : Found) → IsTidy g file → IsFoundFor file g f → TellsFiles file g f

@@ -4,3 +4,4 @@ pub mod Counting
 pub mod Detected
 pub mod Fronts
 pub mod Enough
+pub mod Metas

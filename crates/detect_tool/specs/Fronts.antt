@@ -24,3 +24,8 @@ pub record IsFoundFor (file : List ℕ) (g : Geometry) (f : Found) : Type 0 wher
 pub record TellsFiles (file : List ℕ) (g : Geometry) (f : Found) : Type 0 where
   pub whole : length (table_of g file) ≤ f.counts.whole
   pub damaged : f.counts.damaged ≡ 0
+
+-- Its line tells the volume's own number of meta bytes, and no range.
+pub record TellsOwnMeta (g : Geometry) (f : Found) : Type 0 where
+  pub first : f.volume.meta ≡ g.meta
+  pub last : f.last_meta ≡ g.meta

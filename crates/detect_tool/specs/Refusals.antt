@@ -4,7 +4,7 @@ use Rattle.nor_core.specs.declared.state.NorState.{Ghosts as NorOf}
 use Rattle.tool_parts.specs.Endings.{ClosesWith}
 use Rattle.detect_tool.specs.declared.memory.Lengths.{Lengths}
 use Rattle.detect_tool.specs.declared.memory.Part.{Part}
-use Rattle.detect_tool.specs.declared.memory.Part.TheVariants.{Chip, Words, Work, Cache, Check, Found}
+use Rattle.detect_tool.specs.declared.memory.Part.TheVariants.{Chip, Words, Work, Check, Found}
 use Rattle.detect_tool.specs.declared.refusing.Refusal.{Refusal}
 use Rattle.detect_tool.specs.declared.refusing.Refusal.TheVariants.{Usage, Short}
 use Rattle.detect_tool.specs.Words.{is_command}
@@ -24,7 +24,6 @@ abbrev pub part_word : Part → List ℕ
 part_word Chip = codes "chip"
 part_word Words = codes "words"
 part_word Work = codes "work"
-part_word Cache = codes "cache"
 part_word Check = codes "check"
 part_word Found = codes "found"
 

@@ -39,21 +39,19 @@ pub(crate) fn find_all(
     chip: &[u8],
     words: &mut [u8],
     work: &mut [u8],
-    cache: &mut [u8],
     check: &mut [u8],
     found: &mut [Found],
 ) -> usize
     requires small { length chip.now < 2 ^ 32 }
     requires words { length words.old ≡ 12 * (length chip.now / 4096) }
-    requires work { 2 ^ 20 ≤ length work.old }
-    requires cache { 4104 ≤ length cache.old }
-    requires check { 73727 ≤ length check.old }
+    requires work { 557056 ≤ length work.old }
+    requires check { 65535 ≤ length check.old }
     requires room { 84 * (length chip.now / 4096) ≤ length found.old }
     ensures few { result ≤ length found.new }
     ensures all { AreAll chip.now found.new result }
 {
     read_all_words(chip, words);
-    match collect(chip, words, work, cache, check, found) {
+    match collect(chip, words, work, check, found) {
         Ok(count) => count,
         // (there are no more candidates than places)
         Err(TooFew) => 0,

@@ -15,11 +15,9 @@ pub struct Memory<'b> {
     pub chip: &'b mut [u8],
     /// Bytes for those words of it that may be magics: `volume_detect::words_need` of the chip's size.
     pub words: &'b mut [u8],
-    /// Bytes for work, 1,048,576.
+    /// Bytes for work, 557,056.
     pub work: &'b mut [u8],
-    /// Bytes for copies of pages, at least 4,104.
-    pub cache: &'b mut [u8],
-    /// Bytes for marks, 73,727.
+    /// Bytes for marks, 65,535: one for each page of the largest volume.
     pub check: &'b mut [u8],
     /// Places for what is found: `found_need` of the chip's size.
     pub found: &'b mut [Found],
@@ -31,7 +29,6 @@ pub(crate) struct Lengths {
     pub chip: usize,
     pub words: usize,
     pub work: usize,
-    pub cache: usize,
     pub check: usize,
     pub found: usize,
 }
@@ -42,7 +39,6 @@ pub(crate) enum Part {
     Chip,
     Words,
     Work,
-    Cache,
     Check,
     Found,
 }
@@ -79,7 +75,6 @@ pub(crate) fn lent_lengths(memory: &Memory<'_>) -> Lengths
         chip: memory.chip.len(),
         words: memory.words.len(),
         work: memory.work.len(),
-        cache: memory.cache.len(),
         check: memory.check.len(),
         found: memory.found.len(),
     }
@@ -104,8 +99,7 @@ pub(crate) fn short_part(size: u32, lent: &Lengths) -> Option<Refusal>
 {
     too_short(Part::Chip, size, lent.chip)
         .or(too_short(Part::Words, words_need(size), lent.words))
-        .or(too_short(Part::Work, 1_048_576, lent.work))
-        .or(too_short(Part::Cache, 4104, lent.cache))
-        .or(too_short(Part::Check, 73_727, lent.check))
+        .or(too_short(Part::Work, 557_056, lent.work))
+        .or(too_short(Part::Check, 65_535, lent.check))
         .or(too_short(Part::Found, found_need(size), lent.found))
 }

@@ -40,7 +40,6 @@ fn word_of(part: Part) -> &'static [u8]
         Part::Chip => b"chip",
         Part::Words => b"words",
         Part::Work => b"work",
-        Part::Cache => b"cache",
         Part::Check => b"check",
         Part::Found => b"found",
     }

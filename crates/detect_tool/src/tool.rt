@@ -1,4 +1,4 @@
-ghost use Rattle.std.specs.Prelude.{◌≡◌, ◌*◌, ◌/◌, ◌<◌, ◌≤◌, ◌^◌, length, map, string_bytes, None};
+ghost use Rattle.std.specs.Prelude.{◌≡◌, ◌*◌, ◌/◌, ◌<◌, ◌≤◌, length, map, string_bytes, None};
 ghost use Rattle.nor_core.specs.Count.{Rose};
 ghost use Rattle.detect_tool.specs.Lent.{lengths_of, HasLengths};
 ghost use Rattle.detect_tool.specs.Refusals.{refusal_of, RefusesIf};
@@ -29,15 +29,13 @@ fn detect_on<B: Board>(
     chip: &mut [u8],
     words: &mut [u8],
     work: &mut [u8],
-    cache: &mut [u8],
     check: &mut [u8],
     found: &mut [Found],
 ) -> u8
     requires chip { length chip.old ≡ B.size board.old }
     requires words { length words.old ≡ 12 * (B.size board.old / 4096) }
-    requires work { 2 ^ 20 ≤ length work.old }
-    requires cache { 4104 ≤ length cache.old }
-    requires check { 73727 ≤ length check.old }
+    requires work { 557056 ≤ length work.old }
+    requires check { 65535 ≤ length check.old }
     requires room { 84 * (B.size board.old / 4096) ≤ length found.old }
     ensures cause { result ≡ 7 → Rose (B.faults board.old) (B.faults board.new) }
     ensures detects { Detects B.NorState board.old board.new result }
@@ -45,7 +43,7 @@ fn detect_on<B: Board>(
     if let Err(Failed) = read_chip(board, chip) {
         return BOARD_FAULT;
     }
-    let count = find_all(chip, words, work, cache, check, found);
+    let count = find_all(chip, words, work, check, found);
     let found = &found[..count];
     match say_list(board, found) {
         Ok(()) => status_of(found),
@@ -65,7 +63,6 @@ fn detect_in<B: Board>(board: &mut B, memory: &mut Memory<'_>) -> u8
         &mut memory.chip[..size as usize],
         &mut memory.words[..words_need(size) as usize],
         memory.work,
-        memory.cache,
         memory.check,
         memory.found,
     )

@@ -184,6 +184,7 @@ goes_cornered {nor = nor} {old = old} {mid = mid} {new = new} {id = id} {size = 
       keeps = λ k. refl;
     })
     (wider call.cuts (λ tells image cut s here. does.cut s here image (cut (does.can s here))))
+    (wider call.trims (λ tells image trim s here. trim (does.can s here)))
     (λ s here no_fault whole.
     let can = does.can s here in
     let none = call.ends here.tells can in

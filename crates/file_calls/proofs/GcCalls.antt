@@ -19,6 +19,7 @@ use Rattle.room_laws.specs.Stopping.{CanClean}
 use Rattle.room_laws.proofs.Stops.{reserve_can_clean}
 use Rattle.block_gc.specs.declared.room.RoomErr.TheVariants.{Step, Tight}
 use Rattle.block_gc.specs.RoomMade.{CollectCut}
+use Rattle.trim_laws.specs.Trim.{Trims}
 use Rattle.flash_view.specs.declared.kinds.StepErr.{StepErr}
 use Rattle.flash_view.specs.declared.kinds.StepErr.TheVariants.{DeviceFault as StepFault, Damaged as StepDamaged}
 use Rattle.flash_view.specs.declared.view.View.{View}
@@ -84,11 +85,15 @@ module _ {N : Type 0} {nor : NorOf N} {old new : View N nor} (slots : List FdSlo
     table = is_first (table_of old.geometry image) s.table (steps old.geometry (has_spare old.geometry (nor.bytes old.nor.now)) s Collects) (w.keeps.table ∙ sym here.table);
   })
 
+  gc_trims : {r : Result Bool StepErr} → Stepped stopped old new r packing → Changes nor old.nor.now new.nor.now (λ was image. (s : State) → IsImageOf nor old.geometry old.nor.now slots s → Trims old.geometry was image)
+  gc_trims call = wider call.trims (λ tells image trim s here. trim here.tidy)
+
   -- all is packed
   pub gc_done : Stepped stopped old new (Ok false) packing → Goes nor old.geometry Collects old.nor.now new.nor.now slots slots new.wrote Fine
   gc_done call = goes_by Collects Fine new.wrote
       (record { among = refl; brief = λ bytes e. absurd (cc); named = named_fine Collects Fine new.wrote refl (λ why name e. cc); still = λ refusal. refl; keeps = λ k. refl })
       (gc_cuts call)
+      (gc_trims call)
       (λ s here no_fault whole.
       let now = call.ends here.tells here.tidy in
       let flat = flat_collects old.geometry (has_spare old.geometry (nor.bytes old.nor.now)) s in
@@ -110,6 +115,7 @@ module _ {N : Type 0} {nor : NorOf N} {old new : View N nor} (slots : List FdSlo
   gc_stuck call = goes_by Collects (Refuses FsTight) new.wrote
       (gc_refused FsTight slots new.wrote refl (stop_name FsTight tt))
       (gc_cuts call)
+      (gc_trims call)
       (λ s here no_fault whole. absurd (whole (record { why = inl refl; doable = flat_does old.geometry (nor.bytes old.nor.now) s; tight = refl })))
       (λ s here is. record { packed = λ e. absurd (cc); stuck = λ e. call.ends here.tells here.tidy })
       (λ s here corner tight. absurd (no_corner old.geometry (nor.bytes old.nor.now) s corner))
@@ -125,6 +131,7 @@ module _ {N : Type 0} {nor : NorOf N} {old new : View N nor} (slots : List FdSlo
       goes_by Collects (Refuses (as_fs_err why)) new.wrote
       (gc_refused (as_fs_err why) slots new.wrote (step_among Collects why refl refl) (stop_name (as_fs_err why) means))
       (gc_cuts call)
+      (gc_trims call)
       (λ s here no_fault whole. absurd (no_fault (ap (λ (w : StepErr). Refuses (as_fs_err w)) (call.ends here.tells here.tidy))))
       (λ s here is. record { packed = λ e. absurd (cc); stuck = λ e. absurd (never_tight why (refuses_same (as_fs_err why) FsTight e)) })
       (λ s here corner tight. absurd (no_corner old.geometry (nor.bytes old.nor.now) s corner))

@@ -23,6 +23,7 @@ use Rattle.image_model.specs.Tables.{table_of}
 use Rattle.image_model.specs.Tidy.{IsTidy, HasReserve}
 use Rattle.std.specs.List.{Contains}
 use Rattle.image_model.specs.Sound.{IsSound}
+use Rattle.trim_laws.specs.Trim.{Trims}
 use Rattle.flash_view.specs.declared.kinds.StepErr.{StepErr}
 use Rattle.flash_view.specs.declared.kinds.StepErr.TheVariants.{DeviceFault as StepFault, Damaged as StepDamaged}
 use Rattle.flash_view.specs.declared.view.View.{View}
@@ -216,6 +217,9 @@ module _ {D : Type 0} {nor : NorOf D} {g : Geometry} {slots : List FdSlot} where
   pub reads_cuts : {old new : D} (ask : Ask) → OnlyReads nor old new → Changes nor old new (λ was image. (s : State) → IsImageOf nor g old slots s → CallCut g s ask was image)
   reads_cuts {old} {new} ask reads = read_after (unchanged old (λ was image. (s : State) → IsImageOf nor g old slots s → CallCut g s ask was image) (λ tells s here. stays g (nor.bytes old) s ask here.tidy here.table)) reads
 
+  pub reads_trims : {old new : D} → OnlyReads nor old new → Changes nor old new (λ was image. (s : State) → IsImageOf nor g old slots s → Trims g was image)
+  reads_trims {old} {new} reads = read_after (unchanged old (λ was image. (s : State) → IsImageOf nor g old slots s → Trims g was image) (λ tells s here trim. trim)) reads
+
   -- so the device is that of the state with other descriptors
   reads_image : {old new : D} (after : List FdSlot) (s : State) → OnlyReads nor old new → IsImageOf nor g old slots s → OpensFiles (with_slots (descriptors after) s) → IsImageOf nor g new after (with_slots (descriptors after) s)
   reads_image {old} {new} after s reads here opened = record {
@@ -238,12 +242,13 @@ module _ {D : Type 0} {nor : NorOf D} {g : Geometry} {slots : List FdSlot} where
 
   -- what a call does, by its parts
   pub goes_by : {old new : D} {after : List FdSlot} (ask : Ask) (reply : Answer) (wrote : Bool) → IsFit ask slots after wrote reply → Changes nor old new (λ was image. (s : State) → IsImageOf nor g old slots s → CallCut g s ask was image) →
-      ((s : State) → IsImageOf nor g old slots s → (reply ≡ Refuses DeviceFault → ⊥) → (StopsShort g (nor.bytes old) s ask reply → ⊥) → Reaches nor g old new after s ask reply) → ((s : State) → IsImageOf nor g old slots s → ask ≡ Collects → IsCollected g reply (nor.bytes old) (nor.bytes new)) →
+      Changes nor old new (λ was image. (s : State) → IsImageOf nor g old slots s → Trims g was image) → ((s : State) → IsImageOf nor g old slots s → (reply ≡ Refuses DeviceFault → ⊥) → (StopsShort g (nor.bytes old) s ask reply → ⊥) → Reaches nor g old new after s ask reply) → ((s : State) → IsImageOf nor g old slots s → ask ≡ Collects → IsCollected g reply (nor.bytes old) (nor.bytes new)) →
       ((s : State) → IsImageOf nor g old slots s → IsCorner g (nor.bytes old) s ask → reply ≡ Refuses Tight → StaysAt nor g new after s) → ((s : State) → IsImageOf nor g old slots s → wrote ≡ true → IsDoable g (nor.bytes old) s ask) → (wrote ≡ false → OnlyReads nor old new) → (reply ≡ Refuses DeviceFault → Rose (nor.faults old) (nor.faults new)) →
       ((d : Differ) → reply ≡ Refuses (Damaged d) → (d.wanted ≢ d.found) × ((s : State) → IsImageOf nor g old slots s → ⊥)) → (is_change ask ≡ false → wrote ≡ false) → Goes nor g ask old new slots after wrote reply
-  goes_by ask reply wrote fit cuts answers collects cornered begun untouched cause differs looks = record {
+  goes_by ask reply wrote fit cuts trims answers collects cornered begun untouched cause differs looks = record {
     does = record {
       cuts = cuts;
+      trims = trims;
       collects = collects;
       cornered = cornered;
       begun = begun;
@@ -266,7 +271,7 @@ module _ {D : Type 0} {nor : NorOf D} {g : Geometry} {slots : List FdSlot} where
       ((s : State) → IsImageOf nor g old slots s → (reply ≡ Refuses DeviceFault → ⊥) → answer g (has_spare g (nor.bytes old)) s ask ≡ gives reply (with_slots (descriptors after) s)) →
       (reply ≡ Refuses DeviceFault → Rose (nor.faults old) (nor.faults new)) →
       ((d : Differ) → reply ≡ Refuses (Damaged d) → (d.wanted ≢ d.found) × ((s : State) → IsImageOf nor g old slots s → ⊥)) → Goes nor g ask old new slots after wrote reply
-  goes_read {old} {new} {after} ask reply wrote none reads flat fit is cause differs = goes_by ask reply wrote fit (reads_cuts ask reads)
+  goes_read {old} {new} {after} ask reply wrote none reads flat fit is cause differs = goes_by ask reply wrote fit (reads_cuts ask reads) (reads_trims reads)
       (λ s here no_fault whole. let e = is s here no_fault in record {
         reply_is = sym (ap (λ (o : Outcome). o.answer) e);
         holds = subst (λ (n : State). IsImageOf nor g new after n) (sym (ap (λ (o : Outcome). o.next) e))
@@ -492,6 +497,7 @@ module _ {N : Type 0} {nor : NorOf N} {old mid new : View N nor} {slots : List F
         keeps = keeps;
       })
       (wider call.cuts (λ tells image cut s here. does.cut s here image (cut (does.can s here))))
+      (wider call.trims (λ tells image trim s here. trim (does.can s here)))
       (λ s here no_fault whole.
       let made = does.done s here (nor.bytes new.nor.now) (call.ends here.tells (does.can s here)) in
       record {
@@ -518,6 +524,7 @@ module _ {N : Type 0} {nor : NorOf N} {old mid new : View N nor} {slots : List F
         keeps = λ k. refl;
       })
       (wider call.cuts (λ tells image cut s here. does.cut s here image (cut (does.can s here))))
+      (wider call.trims (λ tells image trim s here. trim (does.can s here)))
       (λ s here no_fault whole. absurd (no_fault (ap (λ (w : FsErr). Refuses w) (call.ends here.tells (does.can s here)))))
       (λ s here collects. absurd (not_collects ask flat collects))
       (λ s here corner tight. absurd (let no : Tight ≡ DeviceFault = sym (refuses_same why Tight tight) ∙ call.ends here.tells (does.can s here) in cc))

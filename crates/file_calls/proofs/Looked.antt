@@ -25,6 +25,7 @@ module _ {D : Type 0} {nor : NorOf D} {g : Geometry} {old mid : D} (reads : Only
   does_from : {new : D} {slots after : List FdSlot} {ask : Ask} {reply : Answer} {wrote : Bool} → Does nor g ask mid new slots after wrote reply → Does nor g ask old new slots after wrote reply
   does_from call = record {
     cuts = wider (after_reads reads call.cuts) (λ tells image cut s here. cut s (reads_stay s reads here));
+    trims = wider (after_reads reads call.trims) (λ tells image trim s here. trim s (reads_stay s reads here));
     collects = λ s here is. rw reads.bytes at (call.collects s (reads_stay s reads here) is);
     cornered = λ s here corner tight. call.cornered s (reads_stay s reads here) (rw (sym reads.bytes) at corner) tight;
     begun = λ s here w. rw reads.bytes at (call.begun s (reads_stay s reads here) w);

@@ -21,6 +21,7 @@ use Rattle.room_laws.specs.Recovery.{Recovers}
 use Rattle.image_model.specs.Collect.{chosen_block}
 use Rattle.block_gc.specs.RoomMade.{IsCompact, IsReady}
 use Rattle.fd_table.specs.declared.slot.FdSlot.{FdSlot}
+use Rattle.trim_laws.specs.Trim.{Trims}
 use Rattle.file_calls.specs.Replies.{is_of_name, names_fault, may_answer, is_change, keeps_slots}
 use Rattle.file_calls.specs.States.{IsImageOf}
 use Rattle.file_calls.specs.Collecting.{IsStuckAt}
@@ -89,6 +90,8 @@ pub record IsGiven (ask : Ask) (bytes : List ℕ) : Type 0 where
 -- erase was asked for.
 pub record Does {D : Type 0} (nor : NorOf D) (g : Geometry) (ask : Ask) (old new : D) (slots after : List FdSlot) (wrote : Bool) (reply : Answer) : Type 0 where
   pub cuts : Changes nor old new (λ was image. (s : State) → IsImageOf nor g old slots s → CallCut g s ask was image)
+  -- where no header page named a page behind the last one of its file, none does, at a cut and after the call
+  pub trims : Changes nor old new (λ was image. (s : State) → IsImageOf nor g old slots s → Trims g was image)
   pub collects : (s : State) → IsImageOf nor g old slots s → ask ≡ Collects → IsCollected g reply (nor.bytes old) (nor.bytes new)
   -- Tight for want of a page for a cut, the call has changed nothing but where pages stand
   pub cornered : (s : State) → IsImageOf nor g old slots s → IsCorner g (nor.bytes old) s ask → reply ≡ Refuses Tight → StaysAt nor g new after s

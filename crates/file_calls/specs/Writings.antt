@@ -17,6 +17,7 @@ use Rattle.image_model.specs.Tidy.{IsTidy, HasReserve}
 use Rattle.image_model.specs.Sound.{IsSound}
 use Rattle.room_laws.specs.Recovery.{Recovers}
 use Rattle.renew_laws.specs.Tails.{IsTailReady}
+use Rattle.trim_laws.specs.Trim.{Trims}
 use Rattle.flash_view.specs.Steps.{Step}
 use Rattle.file_calls.specs.Cuts.{JobCut}
 use Rattle.file_calls.specs.Collecting.{CanTakePages, MayStop}
@@ -84,4 +85,5 @@ pub record WritesOn {D : Type 0} (nor : NorOf D) (g : Geometry) (id at : ℕ) (b
   pub cause : IsErrOf result DeviceFault → Rose (nor.faults old) (nor.faults new)
   pub means : IfErr result MayStop
   pub cuts : Changes nor old new (λ was image. CanWrite g was id at bytes f → WriteCut g at bytes f was image)
+  pub trims : Changes nor old new (λ was image. CanWrite g was id at bytes f → Trims g was image)
   pub ends : nor.tells old → CanWrite g (nor.bytes old) id at bytes f → MatchResult result (λ ok. JobDone g (put_file (written at bytes f) (table_of g (nor.bytes old))) (nor.bytes new)) (λ why. why ≡ DeviceFault)

@@ -30,6 +30,7 @@ use Rattle.image_laws.proofs.Sounding.{sound-on}
 use Rattle.image_laws.proofs.SpareKill.{tidy-has_magics}
 use Rattle.image_laws.proofs.TidySteps.{tidy-is_tidy}
 use Rattle.header_laws.proofs.Telling.{one-head}
+use Rattle.trim_laws.proofs.Trims.{flags_trim}
 use Rattle.flash_view.specs.Steps.{Begins, Finishes, making}
 use Rattle.page_put.specs.LivePages.{clearing, Stays, Cleared}
 use Rattle.page_put.proofs.Clearing.{left_half, left_done, clears_mark, below_byte}
@@ -117,7 +118,7 @@ module _ (g : Geometry) (a : List ℕ) (id p : ℕ) (is : IsImage g a) (can : Ca
   left = removing-leaves g a marked p flags id 6 page.0 start can.can.tidy program
 
   pub marks : Begins g a (making (λ h. HalfProgrammed (p * h.page + 4) (0xBF ∷ [])) (λ h b. programmed b (p * h.page + 4) (0xBF ∷ []))) (dropping_header id p)
-  marks = record { needs = tt; cut = mark_cut }
+  marks = record { needs = λ c h. flags_trim g a c p page.0 (0xBF ∷ []) is live refl h; cut = mark_cut }
 
   -- ---- the kill
 

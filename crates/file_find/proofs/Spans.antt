@@ -6,6 +6,7 @@ use Rattle.std.specs.Option.{option_map}
 use Rattle.std.proofs.Math.Nat.{sub-zero, div-add-mod, mul-le-mul_right}
 use Rattle.std.proofs.lemmas.Nat.{div-mul-add, mod-mul-add}
 use Rattle.std.proofs.lemmas.Bool.{cases_Bool, cases_lt, lt-ltb, le-ltb}
+use Rattle.nor_core.specs.Flash.{word_at}
 use Rattle.geometry.specs.declared.geometry.Geometry.{Geometry}
 use Rattle.geometry.specs.Numbers.{head_slots, span_slots}
 use Rattle.table_model.specs.Room.{data_pages}
@@ -13,7 +14,6 @@ use Rattle.image_model.specs.declared.damage.Damage.TheVariants.{BadName, Missin
 use Rattle.image_model.specs.Headers.{name_of, size_of}
 use Rattle.image_model.specs.Live.{Live}
 use Rattle.image_model.specs.Files.{index_page, entry_number, data_of, data_page, first_missing, judged, judged_by}
-use Rattle.flash_view.specs.DataPages.{numbered}
 use Rattle.file_find.specs.Judging.{entry_data, missing_entry, missing_between, cause_of}
 
 -- ---- first spans
@@ -121,19 +121,20 @@ slots_some g = omega (arith, g.valid.page_least)
 
 -- ---- numbers that are told
 
--- a page that has no number is no data page, and one that has one is
-gone : (page : Option (List ℕ)) (p : ℕ) → is_none (if is_some page then Some p else None) ≡ is_none page
-gone None p = refl
-gone (Some page) p = refl
-
 pub none_by : {A : Type 0} (o : Option A) (none is : Bool) → is_some o ≡ not none → none ≡ is → is_none o ≡ is
 none_by None true is e f = f
 none_by None false is e f = absurd (cc)
 none_by (Some x) true is e f = absurd (cc)
 none_by (Some x) false is e f = f
 
-pub number_gone : (pages : Live) (span p : ℕ) (number : Option ℕ) (none is : Bool) → number ≡ numbered pages span p → is_some number ≡ not none → none ≡ is → is_none (data_of (pages p) span) ≡ is
-number_gone pages span p number none is told e f = sym (gone (data_of (pages p) span) p) ∙ ap (λ (o : Option ℕ). is_none o) (sym told) ∙ none_by number none is e f
+none_is : (o : Option (List ℕ)) → is_none o ≡ not (is_some o)
+none_is None = refl
+none_is (Some x) = refl
+
+-- the entry of a span names no data page of it, where the page that it names is none
+pub data_gone : (pages : Live) (index : List ℕ) (at first span p : ℕ) (holds : Bool) → p ≡ word_at index (at + 2 * (span - first)) → holds ≡ is_some (data_of (pages p) span) → is_none (entry_data pages index at first span) ≡ not holds
+data_gone pages index at first span p holds word is =
+    none_is (data_of (pages (word_at index (at + 2 * (span - first)))) span) ∙ ap (λ (q : ℕ). not (is_some (data_of (pages q) span))) (sym word) ∙ ap not (sym is)
 
 -- the same for answers that are one and the same by all heads
 pub told_each : {A E H : Type 0} (r : Result A E) (x : A) (y : H → A) → IfOk r (λ v. v ≡ x) → ((h : H) → x ≡ y h) → IfOk r (λ v. (h : H) → v ≡ y h)

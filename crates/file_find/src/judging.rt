@@ -12,12 +12,14 @@ use flash_view::View;
 use geometry::Geometry;
 use image_model::Damage;
 use nor_core::{Failed, Nor, NorState};
-use page_layout::{FURTHER_SLOTS_AT, data_pages, file_size, further_pages, head_slots_at, name_of};
+use page_layout::{
+    FURTHER_SLOTS_AT, data_pages, file_size, further_pages, head_slots_at, name_of, read_word,
+};
 use table_model::Name;
 
 // The first of the spans from `first` on and below `end` that has no data page, where their page numbers stand in
-// an index page from byte `at` on.
-#[tactic(auto, using(flash_view::proofs::Looking::looks_then))]
+// an index page from byte `at` on. (The index page is copied once.)
+#[tactic(auto, using(flash_view::proofs::Looking::looks_then, flash_view::proofs::Looking::built_then))]
 fn missing_in<N: Nor>(
     v: &mut View<'_, N>,
     id: u16,
@@ -31,12 +33,12 @@ fn missing_in<N: Nor>(
     ensures cause { OnErr result (Rose (N.faults v.old.nor.now) (N.faults v.new.nor.now)) }
     ensures looks { OnlyLooks v.old v.new }
     ensures told { N.tells v.old.nor.now → IfOk result (λ span. span ≡ missing_entry (own (live_at v.old.geometry (N.bytes v.old.nor.now)) id) (page_of v.old.geometry (N.bytes v.old.nor.now) index) at first end) }
-    ensures work { v.new.work.now ≡ v.old.work.now }
+    ensures built { take v.old.geometry.page v.new.work.now ≡ take v.old.geometry.page v.old.work.now }
 {
+    v.fetch(index)?;
     for span in first..end {
-        if v.data_in(index, at + 2 * (span - first), id, span)?
-            .is_none()
-        {
+        let page = read_word(v.fetched(), (at + 2 * (span - first)) as usize);
+        if !v.is_data_of(page, id, span)? {
             return Ok(Some(span));
         }
     }
@@ -44,7 +46,7 @@ fn missing_in<N: Nor>(
 }
 
 // The same for the spans that further index page `k` names, counted from 0, and that are below `spans`.
-#[tactic(auto, using(flash_view::proofs::Looking::looks_then))]
+#[tactic(auto, using(flash_view::proofs::Looking::looks_then, flash_view::proofs::Looking::built_then))]
 fn missing_of<N: Nor>(
     v: &mut View<'_, N>,
     id: u16,
@@ -56,7 +58,7 @@ fn missing_of<N: Nor>(
     ensures cause { OnErr result (Rose (N.faults v.old.nor.now) (N.faults v.new.nor.now)) }
     ensures looks { OnlyLooks v.old v.new }
     ensures told { N.tells v.old.nor.now → IfOk result (λ span. (head : List ℕ) → span ≡ missing_between v.old.geometry (own (live_at v.old.geometry (N.bytes v.old.nor.now)) id) head (head_slots v.old.geometry + k * span_slots v.old.geometry) (min (head_slots v.old.geometry + k * span_slots v.old.geometry + span_slots v.old.geometry) spans)) }
-    ensures work { v.new.work.now ≡ v.old.work.now }
+    ensures built { take v.old.geometry.page v.new.work.now ≡ take v.old.geometry.page v.old.work.now }
 {
     let g = v.geometry;
     let first = g.head_slots() + k * g.span_slots();
@@ -68,13 +70,13 @@ fn missing_of<N: Nor>(
 }
 
 // The same for all spans that further index pages name, and that are below `spans`.
-#[tactic(auto, using(flash_view::proofs::Looking::looks_then))]
+#[tactic(auto, using(flash_view::proofs::Looking::looks_then, flash_view::proofs::Looking::built_then))]
 fn missing_behind<N: Nor>(v: &mut View<'_, N>, id: u16, spans: u32) -> Result<Option<u32>, Failed>
     requires { spans < 2 ^ 26 }
     ensures cause { OnErr result (Rose (N.faults v.old.nor.now) (N.faults v.new.nor.now)) }
     ensures looks { OnlyLooks v.old v.new }
     ensures told { N.tells v.old.nor.now → IfOk result (λ span. (head : List ℕ) → span ≡ missing_between v.old.geometry (own (live_at v.old.geometry (N.bytes v.old.nor.now)) id) head (head_slots v.old.geometry) spans) }
-    ensures work { v.new.work.now ≡ v.old.work.now }
+    ensures built { take v.old.geometry.page v.new.work.now ≡ take v.old.geometry.page v.old.work.now }
 {
     for k in 0..further_pages(&v.geometry, spans) {
         let missing = missing_of(v, id, k, spans)?;
@@ -86,7 +88,7 @@ fn missing_behind<N: Nor>(v: &mut View<'_, N>, id: u16, spans: u32) -> Result<Op
 }
 
 // The first of the spans below `spans` that has no data page, by this header page.
-#[tactic(auto, using(flash_view::proofs::Looking::looks_then))]
+#[tactic(auto, using(flash_view::proofs::Looking::looks_then, flash_view::proofs::Looking::built_then))]
 fn first_missing<N: Nor>(
     v: &mut View<'_, N>,
     id: u16,
@@ -98,7 +100,7 @@ fn first_missing<N: Nor>(
     ensures cause { OnErr result (Rose (N.faults v.old.nor.now) (N.faults v.new.nor.now)) }
     ensures looks { OnlyLooks v.old v.new }
     ensures told { N.tells v.old.nor.now → IfOk result (λ span. span ≡ missing_between v.old.geometry (own (live_at v.old.geometry (N.bytes v.old.nor.now)) id) (page_of v.old.geometry (N.bytes v.old.nor.now) header) 0 spans) }
-    ensures work { v.new.work.now ≡ v.old.work.now }
+    ensures built { take v.old.geometry.page v.new.work.now ≡ take v.old.geometry.page v.old.work.now }
 {
     let g = v.geometry;
     let near = g.head_slots().min(spans);
@@ -110,7 +112,7 @@ fn first_missing<N: Nor>(
 
 /// Why the file of an id with this header page isn't whole, where it isn't: its name is none, or the first data
 /// span below its size has no data page. The size may be any; each further index page is looked for once.
-#[tactic(auto, using(flash_view::proofs::Looking::looks_then))]
+#[tactic(auto, using(flash_view::proofs::Looking::looks_then, flash_view::proofs::Looking::built_then))]
 pub fn judge<N: Nor>(v: &mut View<'_, N>, id: u16, header: u16) -> Result<Option<Damage>, Failed>
     requires { header < page_count v.old.geometry }
     ensures cause { OnErr result (Rose (N.faults v.old.nor.now) (N.faults v.new.nor.now)) }

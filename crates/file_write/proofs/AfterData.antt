@@ -102,6 +102,7 @@ module _ (g : Geometry) (a : List ℕ) (id h size span : ℕ) (bytes : List ℕ)
         prime = primed;
         grows = record {
           adds = tt;
+          takes = omega (arith, later, count);
           size = omega (arith, end_is, can.told);
           some = can.can.some;
           fits = subst (λ (n : ℕ). n % body g + length bytes ≤ body g) can.told (page_fits g a id h size bytes f can);

@@ -181,6 +181,7 @@ module _ (g : Geometry) (a : List ℕ) (id h size span s p end : ℕ) (bytes : L
         prime = law.0;
         grows = record {
           adds = tt;
+          takes = tt;
           size = omega (arith, end_is, can.told);
           some = can.can.some;
           fits = subst (λ (n : ℕ). n % body g + length bytes ≤ body g) can.told (page_fits g a id h size bytes f can);
@@ -201,3 +202,7 @@ module _ (g : Geometry) (a : List ℕ) (id h size span s p end : ℕ) (bytes : L
 
   pub indexed_ends : (c : List ℕ) (r : ℕ) → (b : List ℕ) × AddedPage g Data (is_data id span bytes g) a b p × AddedPage g Index (is_further id s span p g) b c r → Finishes g a c (renewing_from id h (Grow end) (written (length f.bytes) bytes f)) (appending_at id h size bytes f)
   indexed_ends c r (b, q, w) = index_ends b q c r w
+
+-- it has a span of its own
+pub further_some : (g : Geometry) (t : ℕ) → head_slots g ≤ t → 0 < index_span g t
+further_some g t high = rw (le-ltb t (head_slots g) high) (omega arith)

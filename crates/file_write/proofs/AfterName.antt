@@ -6,7 +6,7 @@ use Rattle.std.proofs.lemmas.Bool.{eqb-true, eq-eqb, le-ltb}
 use Rattle.std.proofs.lemmas.List.{get_or-take, get_or-drop}
 use Rattle.std.proofs.lemmas.Option.{none-some, same_Some}
 use Rattle.geometry.specs.declared.geometry.Geometry.{Geometry}
-use Rattle.geometry.specs.Numbers.{body, head_slots}
+use Rattle.geometry.specs.Numbers.{body, head_slots, span_slots}
 use Rattle.nor_core.specs.Flash.{HalfProgrammed, SameOutside, programmed, word_at}
 use Rattle.nor_core.proofs.Programs.{half_programmed}
 use Rattle.table_model.specs.Table.{File, put_file}
@@ -30,6 +30,9 @@ use Rattle.image_laws.proofs.Frames.{live_parts}
 use Rattle.image_laws.proofs.Judge.{index_passes}
 use Rattle.image_laws.proofs.Placing.{wider}
 use Rattle.image_laws.proofs.Sounding.{keeps-on}
+use Rattle.trim_laws.specs.Trim.{Trims}
+use Rattle.trim_laws.proofs.Trims.{inside_trims}
+use Rattle.trim_laws.proofs.Pages.{further_not_head}
 use Rattle.flash_view.specs.declared.kinds.Kind.TheVariants.{Data}
 use Rattle.flash_view.specs.Steps.{Begins, Finishes, making}
 use Rattle.free_search.proofs.HadBy.{in_place_had}
@@ -189,6 +192,7 @@ module _ (g : Geometry) (a : List ℕ) (id h size w span p end : ℕ) (bytes : L
         prime = (law c torn).2;
         grows = record {
           adds = tt;
+          takes = tt;
           size = omega (arith, end_is, at.told);
           some = at.can.some;
           fits = subst (λ (n : ℕ). n % body g + length bytes ≤ body g) at.told (page_fits g a id h size bytes f at);
@@ -208,9 +212,17 @@ module _ (g : Geometry) (a : List ℕ) (id h size w span p end : ℕ) (bytes : L
       name_ends : Finishes g a c (renewing_from id h (Grow end) (written (length f.bytes) bytes f)) (naming_at id h size w bytes f)
       name_ends = let e = ends g a id h size bytes f at c (Grow end) ready in record { needs = e.needs; cut = e.cut; done = e.done }
 
+    -- its index page is no header page
+    named_trims : (c : List ℕ) → HalfProgrammed (w * g.page + slot_at g span) asked b c → Trims g b c
+    named_trims c torn =
+        let inside = slot-fits g span (sizes g).page in
+        let behind : slot_at g span ≡ 8 + 2 * ((span - head_slots g) % span_slots g) = rw (le-ltb span (head_slots g) far) refl in
+        let more : span_of there.0 ≡ 0 → ⊥ = λ zero. omega (arith, zero, there.3, further_is) in
+        inside_trims g b c w (w * g.page + slot_at g span) there.0 asked prime.image (own-parts (live_at g b) id w there.0 x_still).0 (further_not_head there.0 more) (omega (arith, behind)) (omega (arith, inside, le_two p)) torn
+
     -- the entry is programmed behind it
     pub name_goes : Finishes g a b (making (λ k. HalfProgrammed (w * k.page + slot_at k span) asked) (λ k was. programmed was (w * k.page + slot_at k span) asked)) (naming_data id h size w span p bytes f)
-    name_goes = record { needs = tt; cut = λ c torn. name_cut c torn; done = λ c ok now. (b, q, now) }
+    name_goes = record { needs = named_trims; cut = λ c torn. name_cut c torn; done = λ c ok now. (b, q, now) }
 
   -- both begin the append
   pub name_begins : Begins g a (naming_data id h size w span p bytes f) (naming_at id h size w bytes f)

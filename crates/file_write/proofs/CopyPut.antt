@@ -5,6 +5,7 @@ use Rattle.std.proofs.lemmas.Option.{none-some}
 use Rattle.geometry.specs.declared.geometry.Geometry.{Geometry}
 use Rattle.table_model.specs.declared.error.Tag.{Tag}
 use Rattle.table_model.specs.Table.{File}
+use Rattle.trim_laws.proofs.Pages.{data_trims}
 use Rattle.flash_view.specs.declared.kinds.Kind.TheVariants.{Data}
 use Rattle.flash_view.specs.Steps.{Finishes}
 use Rattle.free_search.specs.Free.{IsFreeFor, FreePage}
@@ -193,4 +194,4 @@ module _ (g : Geometry) (a : List ℕ) (patch : Patch) (spot : Spot) (to : ℕ) 
       }
 
   pub copy_puts : Finishes g a a (putting to Data tag work) (copying_to patch spot to bytes f)
-  copy_puts = record { needs = record { free = free_of g a Data 2 to None is can.found; ready = ready }; cut = λ c put. cut c put; done = λ c ok put. done c put }
+  copy_puts = record { needs = record { free = free_of g a Data 2 to None is can.found; ready = ready; trim = data_trims g new page_is.names }; cut = λ c put. cut c put; done = λ c ok put. done c put }

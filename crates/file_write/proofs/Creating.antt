@@ -40,7 +40,7 @@ use Rattle.page_put.specs.Placing.{placed_page}
 use Rattle.page_put.specs.LivePages.{finished_page, putting}
 use Rattle.page_put.proofs.Putting.{ready}
 use Rattle.file_write.specs.Creates.{CanPut, CreateCut, Created, creating_at}
-use Rattle.file_write.proofs.NewHead.{finished_head, length-new_header, byte-new_header, index, of, first, leads}
+use Rattle.file_write.proofs.NewHead.{finished_head, length-new_header, byte-new_header, index, of, first, leads, head_trims}
 
 -- ---- what is known of the image
 
@@ -210,6 +210,7 @@ module _ (g : Geometry) (a : List ℕ) (p id : ℕ) (name : List ℕ) (some : 1 
             free = can.free;
             ready = ready g Index tag (page ++ rest) (ap length placed_is ∙ length-new_header g.page id name least few)
                 (λ i within. subst (λ (l : List ℕ). slice_index l i < 256) (sym placed_is) (byte-new_header g.page id name small least few bytes i within)) some small;
+            trim = λ index. rw finished_is (head_trims g id name small fields);
           };
           cut = λ c h. put_cut c (rw finished_is at h);
           done = λ c ok h. put_done c (rw finished_is at h);

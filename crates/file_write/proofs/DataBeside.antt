@@ -10,6 +10,8 @@ use Rattle.image_laws.specs.LiveSteps.{PutDone}
 use Rattle.image_laws.specs.NewFile.{IsFreePage}
 use Rattle.image_model.specs.Files.{slot_at}
 use Rattle.image_laws.specs.Reindex.{slot_word}
+use Rattle.trim_laws.specs.Steps.{IsTrimHead}
+use Rattle.trim_laws.proofs.Pages.{data_trims, further_trims}
 use Rattle.flash_view.specs.declared.kinds.Kind.{Kind}
 use Rattle.flash_view.specs.declared.kinds.Kind.TheVariants.{Index, Data}
 use Rattle.flash_view.specs.Steps.{Begins, Finishes}
@@ -33,9 +35,9 @@ module _ (g : Geometry) (a : List ℕ) (to : ℕ) (kind : Kind) (id span : ℕ) 
   is : IsPageOf g kind tag (drop 5 page) new
   is = is_page g kind tag page rest len small range.0 range.1 word
 
-  puts_one : (Is : Geometry → List ℕ → Type 0) → Is g new → IsFreePage g a to → Finishes g a a (putting to kind tag (page ++ rest)) (putting_one to Is)
-  puts_one Is holds free = record {
-    needs = record { free = free; ready = is_ready g kind tag page rest len small range.0 range.1 word };
+  puts_one : (Is : Geometry → List ℕ → Type 0) → Is g new → IsTrimHead g new → IsFreePage g a to → Finishes g a a (putting to kind tag (page ++ rest)) (putting_one to Is)
+  puts_one Is holds trim free = record {
+    needs = record { free = free; ready = is_ready g kind tag page rest len small range.0 range.1 word; trim = trim };
     cut = λ c leaves. (new, holds, leaves);
     done = λ c ok put. (new, holds, put);
   }
@@ -44,7 +46,7 @@ pub puts_data : (g : Geometry) (a : List ℕ) (to id span : ℕ) (bytes page res
     Finishes g a a (putting to Data (record { id = id; span = span }) (page ++ rest)) (putting_one to (is_data id span bytes))
 puts_data g a to id span bytes page rest len holds small range word free =
     let w = is g a to Data id span page rest len small range word in
-    puts_one g a to Data id span page rest len small range word (is_data id span bytes) (record { kind = w.names; of = w.of; at = w.span; holds = ap (take (5 + length bytes - 5)) w.rest ∙ holds }) free
+    puts_one g a to Data id span page rest len small range word (is_data id span bytes) (record { kind = w.names; of = w.of; at = w.span; holds = ap (take (5 + length bytes - 5)) w.rest ∙ holds }) (data_trims g (new g a to Data id span page rest len small range word) w.names) free
 
 -- the bytes behind the header are those that were built
 same_behind : (x y : List ℕ) → drop 5 x ≡ drop 5 y → (k : ℕ) → slice_index x (5 + k) ≡ slice_index y (5 + k)
@@ -57,13 +59,13 @@ same_slot g x y t n place same =
     let second : slice_index x (slot_at g t + 1) ≡ slice_index y (slot_at g t + 1) = subst (λ (k : ℕ). slice_index x k ≡ slice_index y k) next (same_behind x y same (n + 1)) in
     slot_word-at g x t ∙ rw (first, second) (sym (slot_word-at g y t))
 
-pub puts_index : (g : Geometry) (a : List ℕ) (to id span t p : ℕ) (page rest : List ℕ) → length page ≡ g.page → slot_word g page t ≡ p → ((k : ℕ) → slice_index page k < 256) → (1 ≤ id) × (id ≤ 0x7FFE) → span < 65536 → IsFreePage g a to →
+pub puts_index : (g : Geometry) (a : List ℕ) (to id span t p : ℕ) (page rest : List ℕ) → length page ≡ g.page → slot_word g page t ≡ p → ((k : ℕ) → slice_index page k < 256) → (1 ≤ id) × (id ≤ 0x7FFE) → span < 65536 → 0 < span → IsFreePage g a to →
     Finishes g a a (putting to Index (record { id = id; span = span }) (page ++ rest)) (putting_one to (is_further id span t p))
-puts_index g a to id span t p page rest len slot small range word free =
+puts_index g a to id span t p page rest len slot small range word some free =
     let w = is g a to Index id span page rest len small range word in
     let place : slot_at g t ≡ 5 + (slot_at g t - 5) = slot_behind g t in
     puts_one g a to Index id span page rest len small range word (is_further id span t p)
-    (record { kind = w.names; of = w.of; at = w.span; slot = same_slot g (new g a to Index id span page rest len small range word) page t (slot_at g t - 5) place w.rest ∙ slot }) free
+    (record { kind = w.names; of = w.of; at = w.span; slot = same_slot g (new g a to Index id span page rest len small range word) page t (slot_at g t - 5) place w.rest ∙ slot }) (further_trims g (new g a to Index id span page rest len small range word) (λ zero. omega (arith, w.span, zero, some))) free
   where
     slot_behind : (g : Geometry) (t : ℕ) → slot_at g t ≡ 5 + (slot_at g t - 5)
     slot_behind g t = behind_of (nat_lt t (head_slots g))

@@ -10,6 +10,7 @@ use Rattle.table_model.specs.declared.error.Tag.{Tag}
 use Rattle.table_model.specs.Table.{File, put_file}
 use Rattle.table_model.specs.Files.{written}
 use Rattle.table_model.specs.Room.{data_pages}
+use Rattle.page_renew.proofs.Trimmed.{renamed_head}
 use Rattle.flash_view.specs.declared.kinds.Kind.TheVariants.{Index}
 use Rattle.flash_view.specs.Steps.{Finishes}
 use Rattle.free_search.specs.Free.{IsFreeFor, FreePage}
@@ -263,10 +264,13 @@ module _ (g : Geometry) (was image : List ℕ) (patch : Patch) (spot : Spot) (to
         ready = λ ends. tail b all ends;
       }
 
+  all_of : span_of old ≡ 0 → count_of g image (obj_id old % 0x8000) ≡ data_pages g (size_of old)
+  all_of zero = count ∙ ap (λ (l : List ℕ). data_pages g (size_of l)) (sym (is_head zero))
+
   pub index_puts : Finishes g image image (replacing p spot.index tag work) (renaming_to was patch spot to p bytes f)
   index_puts = record {
     needs = record {
-      put = record { free = can.free; ready = index_ready g tag work (take g.page work) placed_is work_len (λ k below. rw (Rattle.std.proofs.lemmas.List.get_or-take g.page work k 0 below) (copy.small k below)) range };
+      put = record { free = can.free; ready = index_ready g tag work (take g.page work) placed_is work_len (λ k below. rw (Rattle.std.proofs.lemmas.List.get_or-take g.page work k 0 below) (copy.small k below)) range; trim = renamed_head g old (take g.page copy.plain) (count_of g image (obj_id old % 0x8000)) copy.built.copied all_of (take g.page work) new patch.span copy.others at_span (λ zero. omega (arith, at.below, count)) sets };
       kill = record { live = ap is_some copy.built.live; byte = copy.built.flags };
     };
     cut = λ c h. cut c h;

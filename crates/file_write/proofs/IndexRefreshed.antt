@@ -9,6 +9,7 @@ use Rattle.geometry.specs.Numbers.{body, head_slots}
 use Rattle.table_model.specs.declared.error.Tag.{Tag}
 use Rattle.table_model.specs.Table.{File, put_file}
 use Rattle.table_model.specs.Room.{data_pages, index_pages}
+use Rattle.page_renew.proofs.Trimmed.{copied_head}
 use Rattle.flash_view.specs.declared.kinds.Kind.TheVariants.{Index}
 use Rattle.flash_view.specs.Steps.{Finishes}
 use Rattle.free_search.specs.Free.{IsFreeFor, FreePage}
@@ -233,7 +234,7 @@ module _ (g : Geometry) (a : List ℕ) (id size o to : ℕ) (f : File) (can : Ca
   pub refresh_puts : Finishes g a a (replacing to o tag work) (refreshing_to id size o to f)
   refresh_puts = record {
     needs = record {
-      put = record { free = can.free; ready = index_ready g tag work (take g.page work) placed_is work_len (λ k below. rw (get_or-take g.page work k 0 below) (built.small k below)) range };
+      put = record { free = can.free; ready = index_ready g tag work (take g.page work) placed_is work_len (λ k below. rw (get_or-take g.page work k 0 below) (built.small k below)) range; trim = copied_head g old (take g.page work) count built.copied (λ zero. absurd (omega (arith, zero, at_span))) new sets };
       kill = record { live = ap is_some built.live; byte = built.flags };
     };
     cut = λ c h. cut c h;

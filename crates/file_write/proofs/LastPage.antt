@@ -25,6 +25,8 @@ use Rattle.image_laws.proofs.Frames.{live_parts}
 use Rattle.image_laws.proofs.Serving.{ceil-mono}
 use Rattle.image_laws.proofs.Finished.{finished-programmed}
 use Rattle.image_laws.proofs.Placing.{wider}
+use Rattle.trim_laws.proofs.Trims.{inside_trims}
+use Rattle.trim_laws.proofs.Pages.{data_not_head}
 use Rattle.flash_view.specs.DataPages.{numbered, data_number, data_number_of}
 use Rattle.flash_view.specs.Steps.{Begins, Finishes, making}
 use Rattle.free_search.specs.Had.{IsClear}
@@ -202,6 +204,7 @@ module _ (g : Geometry) (a : List ℕ) (id h size q at end : ℕ) (bytes : List 
       prime = law.2;
       grows = record {
         adds = tt;
+        takes = tt;
         size = omega (arith, end_is, can.told);
         some = can.can.some;
         fits = fits;
@@ -219,7 +222,7 @@ module _ (g : Geometry) (a : List ℕ) (id h size q at end : ℕ) (bytes : List 
     }
 
   pub fill_begins : Begins g a (making (λ k. HalfProgrammed (q * k.page + at) bytes) (λ k was. programmed was (q * k.page + at) bytes)) (filling_at id h size q bytes f)
-  fill_begins = record { needs = tt; cut = λ c torn. cut c torn }
+  fill_begins = record { needs = λ c torn. inside_trims g a c q (q * g.page + at) named.z bytes is live (data_not_head named.z named.kind) (omega (arith, start)) (omega (arith, inside)) torn; cut = λ c torn. cut c torn }
 
   pub fill_ends : (c : List ℕ) → ((k : ℕ) → k < length bytes → slice_index bytes k < 256) → c ≡ programmed a (q * g.page + at) bytes → Finishes g a c (renewing_from id h (Grow end) (written (length f.bytes) bytes f)) (filling_at id h size q bytes f)
   fill_ends c small done =

@@ -1,5 +1,5 @@
 -- The header page of a new file, once it is finished.
-use Rattle.std.proofs.Common.{◌≡◌, ℕ, ◌+◌, ◌-◌, ◌/◌, ◌%◌, ◌<◌, ◌≤◌, List, [], ◌∷◌, ◌++◌, length, replicate, slice_index, slice_range, true, Some, Ok, refl, ap, arith}
+use Rattle.std.proofs.Common.{◌≡◌, ℕ, ◌+◌, ◌-◌, ◌*◌, ◌/◌, ◌%◌, ◌<◌, ◌≤◌, List, [], ◌∷◌, ◌++◌, length, replicate, slice_index, slice_range, true, Some, Ok, zero, suc, refl, ap, ◌∙◌, arith}
 use Rattle.std.specs.List.{All}
 use Rattle.std.proofs.Math.Nat.{div-eq_of_lt}
 use Rattle.std.proofs.lemmas.Grind.{common_steps}
@@ -10,9 +10,12 @@ use Rattle.table_model.specs.Room.{data_pages}
 use Rattle.table_model.specs.Files.{new_file}
 use Rattle.page_layout.specs.Layout.{new_header_page, padded, IsNewHeader}
 use Rattle.image_model.specs.Headers.{obj_id, span_of, names_index, name_of}
+use Rattle.nor_core.specs.Flash.{word_at}
 use Rattle.image_model.specs.Live.{Live}
 use Rattle.image_model.specs.Files.{judged}
 use Rattle.image_model.specs.Within.{sizes}
+use Rattle.image_laws.proofs.Frames.{word_at-same}
+use Rattle.trim_laws.specs.Trim.{IsTrimmed}
 
 -- its bytes: those of the new header page with FINAL cleared
 abbrev pub finished_head : ℕ → ℕ → List ℕ → List ℕ
@@ -67,3 +70,22 @@ module _ (g : Geometry) (id : ℕ) (name : List ℕ) (small : id ≤ 0x7FFE) whe
       let meta : slice_range (finished_head g.page id name) 45 (45 + g.meta) ≡ replicate g.meta 0xFF = fields.meta in
       let none : data_pages g 0 ≡ 0 = div-eq_of_lt (omega (arith, (sizes g).page)) in
       rw (named, none) (ap (λ (m : List ℕ). Ok (record { id = id; name = name; kind = 1; meta = m; bytes = [] })) meta)
+
+  -- it names no page
+  pub head_trims : IsNewHeader g id name (new_header_page g.page id name) → IsTrimmed g (finished_head g.page id name)
+  head_trims fields = record {
+    free = λ t from below.
+        let words : word_at (new_header_page g.page id name) (45 + g.meta + 2 * t) ≡ 0xFFFF = fields.slots t below in
+        same_word (45 + g.meta + 2 * t) (omega arith) ∙ words;
+  }
+    where
+      byte : (k : ℕ) → 5 ≤ k → slice_index (finished_head g.page id name) k ≡ slice_index (new_header_page g.page id name) k
+      byte zero low = absurd (omega (arith, low))
+      byte (suc zero) low = absurd (omega (arith, low))
+      byte (suc (suc zero)) low = absurd (omega (arith, low))
+      byte (suc (suc (suc zero))) low = absurd (omega (arith, low))
+      byte (suc (suc (suc (suc zero)))) low = absurd (omega (arith, low))
+      byte (suc (suc (suc (suc (suc k))))) low = refl
+
+      same_word : (k : ℕ) → 5 ≤ k → word_at (finished_head g.page id name) k ≡ word_at (new_header_page g.page id name) k
+      same_word k low = word_at-same (new_header_page g.page id name) (finished_head g.page id name) k (byte k low) (byte (k + 1) (omega (arith, low)))

@@ -67,6 +67,7 @@ fn put_index<N: Nor>(
     requires to { IsEntryPage v.old.geometry to }
     requires id { (1 ≤ id) × (id ≤ 0x7FFE) }
     requires far { head_slots v.old.geometry ≤ data_span }
+    requires some { 0 < span }
     ensures { Stepped failed v.old v.new result (putting_one to (is_further id span data_span target)) }
 {
     let g = v.geometry;
@@ -86,6 +87,7 @@ pub(crate) fn add_index<N: Nor>(
 ) -> Result<u16, StepErr>
     requires id { (1 ≤ id) × (id ≤ 0x7FFE) }
     requires far { head_slots v.old.geometry ≤ data_span }
+    requires some { 0 < span }
     ensures { Stepped stopped v.old v.new result (adding Index (is_further id span data_span target)) }
 {
     match free_page(v, Kind::Index, 2, None) {

@@ -10,10 +10,12 @@ use Rattle.page_layout.specs.declared.header.PageHeader.{PageHeader}
 use Rattle.page_layout.specs.Layout.{header_at, names_index as names_index_head}
 use Rattle.image_model.specs.Headers.{obj_id, span_of, names_index}
 use Rattle.nor_core.specs.Flash.{word_at}
-use Rattle.image_model.specs.Places.{page_of, is_entry_page}
+use Rattle.image_model.specs.Places.{page_of, entry_of, is_entry_page}
 use Rattle.image_model.specs.Live.{Live, live_at, is_live, own}
 use Rattle.image_model.specs.Files.{is_index, index_page, further, index_span, slot_at, entry_number, data_of}
 use Rattle.flash_view.specs.DataPages.{lookup_entry, numbered, data_number}
+use Rattle.flash_view.specs.Places.{IsEntryPage}
+use Rattle.flash_view.proofs.Heads.{entry_page_told}
 use Rattle.flash_view.proofs.Entries.{live_page}
 
 -- ---- whether a page is a data page
@@ -80,6 +82,15 @@ data_other (Some page) entry id span known differ =
 pub passed_data : (g : Geometry) (image : List ℕ) (p id span entry : ℕ) → entry ≡ lookup_entry g image p → entry ≢ id → is_some (data_of (own (live_at g image) id p) span) ≡ false
 unfolding own
 passed_data g image p id span entry is differ = data_other (live_at g image p) entry id span (λ page e. is ∙ (live_page g image p page e).entry) differ
+
+-- by its lookup page and its entry
+pub data_lookup : (g : Geometry) (image : List ℕ) (p id span : ℕ) → is_entry_page g p ≡ false → is_some (data_of (own (live_at g image) id p) span) ≡ false
+unfolding own live_at is_live
+data_lookup g image p id span none = rw none refl
+
+pub data_passed : (g : Geometry) (image : List ℕ) (p id span entry : ℕ) → IsEntryPage g p → entry ≡ entry_of g image p → entry ≢ id → is_some (data_of (own (live_at g image) id p) span) ≡ false
+unfolding lookup_entry
+data_passed g image p id span entry place is differ = passed_data g image p id span entry (rw (entry_page_told g p place) is) differ
 
 -- ---- index pages that are there
 

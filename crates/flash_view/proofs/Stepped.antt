@@ -12,6 +12,7 @@ use Rattle.nor_core.proofs.Cuts.{wider, go_on, unchanged, after_reads, reads_the
 use Rattle.page_cache.proofs.Held.{few_none}
 use Rattle.flash_view.specs.declared.view.View.{View}
 use Rattle.flash_view.specs.Same.{StaysBehind, IsSameView, OnlyLooks, OnlyCounts}
+use Rattle.trim_laws.specs.Trim.{Trims}
 use Rattle.flash_view.proofs.Behind.{behind_none}
 use Rattle.flash_view.proofs.Looking.{same_then, looks_counts}
 use Rattle.flash_view.specs.Steps.{Step, Errors, Framed, Stepped, Begins, Finishes, acting, making, failed, IsRebuilt}
@@ -74,6 +75,7 @@ module _ {N : Type 0} {nor : NorOf N} where
       means = means;
       cuts = after_reads looks.reads (unchanged new.nor.now _ (λ tells need. subst (λ (a : List ℕ). step.needs old.geometry a → step.cut old.geometry a a) (sym looks.reads.bytes) (λ n. (law (looks.reads.told_before tells) n).0) need));
       ends = λ tells need. subst (λ (b : List ℕ). MatchResult r (step.done old.geometry (nor.bytes old.nor.now) b) (λ why. why ≡ errors.fault)) (sym looks.reads.bytes) (law tells need).1;
+      trims = after_reads looks.reads (unchanged new.nor.now _ (λ tells need trim. trim));
     }
 
   -- work alone
@@ -108,13 +110,28 @@ module _ {N : Type 0} {nor : NorOf N} where
         let ends : nor.tells mid.nor.now → last.needs old.geometry (nor.bytes old.nor.now) → MatchResult r (last.done old.geometry (nor.bytes old.nor.now) (nor.bytes new.nor.now)) (λ why. why ≡ errors.fault) =
         subst (λ (a : List ℕ). nor.tells mid.nor.now → last.needs old.geometry a → MatchResult r (last.done old.geometry a (nor.bytes new.nor.now)) (λ why. why ≡ errors.fault)) looks.reads.bytes
         (subst (λ (k : Geometry). nor.tells mid.nor.now → last.needs k (nor.bytes mid.nor.now) → MatchResult r (last.done k (nor.bytes mid.nor.now) (nor.bytes new.nor.now)) (λ why. why ≡ errors.fault)) looks.same.geometry call.ends) in
+        let trims : Changes nor mid.nor.now new.nor.now (λ was image. last.needs old.geometry was → Trims old.geometry was image) =
+        subst (λ (k : Geometry). Changes nor mid.nor.now new.nor.now (λ was image. last.needs k was → Trims k was image)) looks.same.geometry call.trims in
         record {
           framed = framed_then (framed_looks looks) call.framed;
           cause = λ e. let rose = call.cause e in let more = looks.same.faults in omega arith;
           means = call.means;
           cuts = wider (after_reads looks.reads cuts) (λ tells image cut need. let l = law tells need in l.cut image (cut l.needs));
           ends = λ tells need. let l = law tells need in on_ok r errors.fault _ _ (λ x done. l.done _ x done) (ends (looks.reads.told tells) l.needs);
+          trims = wider (after_reads looks.reads trims) (λ tells image trim need. trim (law tells need).needs);
         }
+
+  -- ---- the start of a call
+
+  starts : {S T D : Type 0} {before : Errors D} {old new : View N nor} {r : Result S D} {first : Step S} {whole : Step T} → Stepped before old new r first →
+      (nor.tells old.nor.now → whole.needs old.geometry (nor.bytes old.nor.now) → Begins old.geometry (nor.bytes old.nor.now) first whole) →
+      Changes nor old.nor.now new.nor.now (λ was image. whole.needs old.geometry was → whole.cut old.geometry was image)
+  starts call begins = wider call.cuts (λ tells image cut need. let b = begins tells need in b.cut image (cut b.needs))
+
+  starts_trim : {S T D : Type 0} {before : Errors D} {old new : View N nor} {r : Result S D} {first : Step S} {whole : Step T} → Stepped before old new r first →
+      (nor.tells old.nor.now → whole.needs old.geometry (nor.bytes old.nor.now) → Begins old.geometry (nor.bytes old.nor.now) first whole) →
+      Changes nor old.nor.now new.nor.now (λ was image. whole.needs old.geometry was → Trims old.geometry was image)
+  starts_trim call begins = wider call.trims (λ tells image trim need. trim (begins tells need).needs)
 
   -- ---- a call after another
 
@@ -129,6 +146,8 @@ module _ {N : Type 0} {nor : NorOf N} where
         subst (λ (k : Geometry). Changes nor mid.nor.now new.nor.now (λ was image. last.needs k was → last.cut k was image)) call.framed.same.geometry next.cuts in
         let ends : nor.tells mid.nor.now → last.needs old.geometry (nor.bytes mid.nor.now) → MatchResult r (last.done old.geometry (nor.bytes mid.nor.now) (nor.bytes new.nor.now)) (λ why. why ≡ errors.fault) =
         subst (λ (k : Geometry). nor.tells mid.nor.now → last.needs k (nor.bytes mid.nor.now) → MatchResult r (last.done k (nor.bytes mid.nor.now) (nor.bytes new.nor.now)) (λ why. why ≡ errors.fault)) call.framed.same.geometry next.ends in
+        let trims : Changes nor mid.nor.now new.nor.now (λ was image. last.needs old.geometry was → Trims old.geometry was image) =
+        subst (λ (k : Geometry). Changes nor mid.nor.now new.nor.now (λ was image. last.needs k was → Trims k was image)) call.framed.same.geometry next.trims in
         record {
           framed = framed_then call.framed next.framed;
           cause = λ e. let rose = next.cause e in let more = call.framed.same.faults in omega arith;
@@ -136,14 +155,10 @@ module _ {N : Type 0} {nor : NorOf N} where
           cuts = go_on (wider call.cuts (λ tells image cut need. let b = begins tells need in b.cut image (cut b.needs))) cuts
               (λ tells image was cut need. let f = finishes tells need (call.ends tells (begins tells need).needs) in f.cut image (cut f.needs));
           ends = λ tells need. let f = finishes tells need (call.ends tells (begins tells need).needs) in on_ok r errors.fault _ _ (λ y done. f.done _ y done) (ends (call.cuts.cuts.told tells) f.needs);
+          trims = go_on (starts_trim call begins) trims (λ tells image before trim need was. let f = finishes tells need (call.ends tells (begins tells need).needs) in trim f.needs (before need was));
         }
 
   -- ---- the ends of a call
-
-  starts : {S T D : Type 0} {before : Errors D} {old new : View N nor} {r : Result S D} {first : Step S} {whole : Step T} → Stepped before old new r first →
-      (nor.tells old.nor.now → whole.needs old.geometry (nor.bytes old.nor.now) → Begins old.geometry (nor.bytes old.nor.now) first whole) →
-      Changes nor old.nor.now new.nor.now (λ was image. whole.needs old.geometry was → whole.cut old.geometry was image)
-  starts call begins = wider call.cuts (λ tells image cut need. let b = begins tells need in b.cut image (cut b.needs))
 
   module _ {S T D E : Type 0} {before : Errors D} {errors : Errors E} {old new : View N nor} {first : Step S} {whole : Step T} where
     -- a fault is passed on
@@ -155,6 +170,7 @@ module _ {N : Type 0} {nor : NorOf N} where
       means = means;
       cuts = starts call begins;
       ends = λ tells need. on (call.ends tells (begins tells need).needs);
+      trims = starts_trim call begins;
     }
       where
         ap_err : {x y : D} → x ≡ y → ◌≡◌ {A = Result S D} (Err x) (Err y)
@@ -170,6 +186,7 @@ module _ {N : Type 0} {nor : NorOf N} where
       means = tt;
       cuts = starts call begins;
       ends = λ tells need. ends tells need (call.ends tells (begins tells need).needs);
+      trims = starts_trim call begins;
     }
 
   -- a step on the same view as a weaker one
@@ -181,6 +198,7 @@ module _ {N : Type 0} {nor : NorOf N} where
     means = call.means;
     cuts = wider call.cuts (λ tells image cut need. let l = law tells need in l.cut image (cut l.needs));
     ends = λ tells need. let l = law tells need in on_ok r errors.fault _ _ (λ x done. l.done _ x done) (call.ends tells l.needs);
+    trims = wider call.trims (λ tells image trim need. trim (law tells need).needs);
   }
 
   -- programs
@@ -193,6 +211,7 @@ module _ {N : Type 0} {nor : NorOf N} where
     means = fault_means r;
     cuts = wider changes (λ tells image cut need. cut);
     ends = λ tells need. ended r _ (done tells);
+    trims = wider changes (λ tells image here need. need image here);
   }
     where
       caused : (r : Result (Unit {0}) Failed) {P : Type 0} → IsErrOf r failed.fault → OnErr r P → P

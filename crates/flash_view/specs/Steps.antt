@@ -10,6 +10,7 @@ use Rattle.table_model.specs.declared.error.FsErr.TheVariants.{DeviceFault as Fs
 use Rattle.flash_view.specs.declared.kinds.StepErr.{StepErr}
 use Rattle.flash_view.specs.declared.kinds.StepErr.TheVariants.{DeviceFault, Damaged}
 use Rattle.flash_view.specs.declared.view.View.{View}
+use Rattle.trim_laws.specs.Trim.{Trims}
 use Rattle.flash_view.specs.Same.{IsSameView}
 
 -- The errors of a call: the one that tells a fault of the device, and what each of them means.
@@ -55,6 +56,8 @@ pub record Stepped {N T E : Type 0} {nor : NorOf N} (errors : Errors E) (old new
   pub means : IfErr result errors.means
   pub cuts : Changes nor old.nor.now new.nor.now (λ was image. step.needs old.geometry was → step.cut old.geometry was image)
   pub ends : nor.tells old.nor.now → step.needs old.geometry (nor.bytes old.nor.now) → MatchResult result (step.done old.geometry (nor.bytes old.nor.now) (nor.bytes new.nor.now)) (λ why. why ≡ errors.fault)
+  -- where no header page named a page behind the last one of its file, none does, at a cut and after the call
+  pub trims : Changes nor old.nor.now new.nor.now (λ was image. step.needs old.geometry was → Trims old.geometry was image)
 
 -- A step begins another on image a where it needs no more, and its cuts are cuts of the other,
 pub record Begins {S T : Type 0} (g : Geometry) (a : List ℕ) (first : Step S) (whole : Step T) : Type 0 where
@@ -67,9 +70,9 @@ pub record Finishes {T : Type 0} (g : Geometry) (a b : List ℕ) (last whole : S
   pub cut : (c : List ℕ) → last.cut g b c → whole.cut g a c
   pub done : (c : List ℕ) (x : T) → last.done g b c x → whole.done g a c x
 
--- a step of programs alone, on any image: what a cut leaves by R, and what they leave done,
+-- a step of programs alone, on an image of which all that R leaves trims header pages: what a cut leaves by R, and what they leave done,
 abbrev pub acting : (Geometry → List ℕ → List ℕ → Type 0) → (Geometry → List ℕ → List ℕ → Type 0) → Step (Unit {0})
-acting R D = record { needs = λ g was. Unit {0}; cut = R; done = λ g was now ok. D g was now }
+acting R D = record { needs = λ g was. (image : List ℕ) → R g was image → Trims g was image; cut = R; done = λ g was now ok. D g was now }
 
 -- where that is one image
 abbrev pub making : (Geometry → List ℕ → List ℕ → Type 0) → (Geometry → List ℕ → List ℕ) → Step (Unit {0})

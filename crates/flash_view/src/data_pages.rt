@@ -10,6 +10,7 @@ ghost use Rattle.flash_view.specs.Same.{OnlyLooks};
 ghost use Rattle.flash_view.specs.DataPages.{numbered, data_number, data_number_of};
 
 use crate::View;
+use crate::places::is_entry_page;
 use nor_core::{Failed, Nor, NorState};
 use page_layout::{PageHeader, entry_place, wide_index_span};
 
@@ -83,7 +84,7 @@ impl<'b, N: Nor> View<'b, N> {
 
     /// Whether a page is a live data page of an object and a span. The number may be past the volume's end. The page's
     /// header is read only where its entry is that of the object's data pages.
-    #[tactic(auto, using(crate::proofs::Looking::looks_then, crate::proofs::Spans::data_seen, crate::proofs::Spans::data_unseen, crate::proofs::Spans::data_beyond, crate::proofs::Spans::passed_data))]
+    #[tactic(auto, using(crate::proofs::Looking::looks_then, crate::proofs::Spans::data_seen, crate::proofs::Spans::data_unseen, crate::proofs::Spans::data_beyond, crate::proofs::Spans::data_lookup, crate::proofs::Spans::data_passed))]
     pub fn is_data_of(&mut self, page: u16, id: u16, span: u32) -> Result<bool, Failed>
         ensures cause { OnErr result (Rose (N.faults self.old.nor.now) (N.faults self.new.nor.now)) }
         ensures looks { OnlyLooks self.old self.new }
@@ -94,11 +95,14 @@ impl<'b, N: Nor> View<'b, N> {
         if u32::from(page) >= self.geometry.pages() {
             return Ok(false);
         }
-        let entry = self.lookup_entry(page)?;
+        if !is_entry_page(&self.geometry, page) {
+            return Ok(false);
+        }
+        let (entry, has) = self.entry_and_magic(page)?;
         if entry != id {
             return Ok(false);
         }
-        Ok(match self.live_behind(page, entry)? {
+        Ok(match self.named_header(has, page, entry)? {
             Some(head) => is_data(head, id, span),
             None => false,
         })

@@ -77,7 +77,7 @@ impl<'b, N: Nor> View<'b, N> {
     ghost use Rattle.nor_core.specs.Device.{Changes, InErase, Writes};
     ghost use Rattle.geometry.specs.Numbers.{slots};
     ghost use Rattle.flash_view.specs.Places.{IsEntryPage, IsWordAt, page_start as the_page_start};
-    ghost use Rattle.image_model.specs.Places.{page_of, slot_of, entry_at, entry_of as the_entry_of, has_magic as the_magic, erase_count as the_erase_count};
+    ghost use Rattle.image_model.specs.Places.{block_of as the_block_of, page_of, slot_of, entry_at, entry_of as the_entry_of, has_magic as the_magic, erase_count as the_erase_count};
     ghost use Rattle.image_model.specs.Tidy.{is_erased as the_erased};
     ghost use Rattle.page_layout.specs.Layout.{header_at};
     ghost use Rattle.page_cache.specs.Frames.{holds, held, frame_count, page_in};
@@ -145,6 +145,32 @@ impl<'b, N: Nor> View<'b, N> {
         Ok(read_word(self.brought(f, page), at))
     }
 
+    // Two slots of a block. (Where it has one lookup page alone, that is looked at once.)
+    #[tactic(auto, using(crate::proofs::Looking::looks_then))]
+    pub(crate) fn two_slots(&mut self, block: u16, i: u32, j: u32) -> Result<(u16, u16), Failed>
+        requires block { block < self.old.geometry.blocks }
+        requires first { i < slots self.old.geometry }
+        requires second { j < slots self.old.geometry }
+        ensures cause { OnErr result (Rose (N.faults self.old.nor.now) (N.faults self.new.nor.now)) }
+        ensures looks { OnlyLooks self.old self.new }
+        ensures first { N.tells self.old.nor.now → IfOk result (λ words. words.0 ≡ slot_of self.old.geometry (N.bytes self.old.nor.now) block i) }
+        ensures second { N.tells self.old.nor.now → IfOk result (λ words. words.1 ≡ slot_of self.old.geometry (N.bytes self.old.nor.now) block j) }
+        ensures work { self.new.work.now ≡ self.old.work.now }
+    {
+        let g = self.geometry;
+        if g.lookups() != 1 {
+            let first = self.slot(block, i)?;
+            let second = self.slot(block, j)?;
+            return Ok((first, second));
+        }
+        let page = lookup_page(&g, block, 0);
+        let f = self.bring(page)?;
+        let bytes = self.brought(f, page);
+        let first = read_word(bytes, 2 * i as usize);
+        let second = read_word(bytes, 2 * j as usize);
+        Ok((first, second))
+    }
+
     /// The entry of a page: free, deleted, or the id of its object with bit 15 set in index pages.
     #[tactic(auto, unfolding(image_model::specs::Places::entry_of), using(crate::proofs::Inside::entry_slot))]
     pub fn entry(&mut self, page: u16) -> Result<u16, Failed>
@@ -176,6 +202,27 @@ impl<'b, N: Nor> View<'b, N> {
         let place = magic_offset(&self.geometry) / 2;
         let magic = self.geometry.magic_of(u32::from(block));
         Ok(self.slot(block, place)? == magic)
+    }
+
+    /// The entry of a page, and whether its block has its magic.
+    #[tactic(auto, unfolding(image_model::specs::Places::entry_of, image_model::specs::Places::has_magic), using(geometry::proofs::Bounds::magic_fits, crate::proofs::Inside::entry_slot, crate::proofs::Looking::looks_none, crate::proofs::Rows::table_magic))]
+    pub(crate) fn entry_and_magic(&mut self, page: u16) -> Result<(u16, bool), Failed>
+        requires { IsEntryPage self.old.geometry page }
+        ensures cause { OnErr result (Rose (N.faults self.old.nor.now) (N.faults self.new.nor.now)) }
+        ensures looks { OnlyLooks self.old self.new }
+        ensures entry { N.tells self.old.nor.now → IfOk result (λ seen. seen.0 ≡ the_entry_of self.old.geometry (N.bytes self.old.nor.now) page) }
+        ensures magic { N.tells self.old.nor.now → IfOk result (λ seen. seen.1 ≡ the_magic self.old.geometry (N.bytes self.old.nor.now) (the_block_of self.old.geometry page)) }
+        ensures work { self.new.work.now ≡ self.old.work.now }
+    {
+        if self.counted {
+            let entry = self.entry(page)?;
+            return Ok((entry, true));
+        }
+        let g = self.geometry;
+        let block = block_of(&g, page);
+        let place = u32::from(page) % g.per_block() - g.lookups();
+        let (entry, word) = self.two_slots(block, place, magic_offset(&g) / 2)?;
+        Ok((entry, word == g.magic_of(u32::from(block))))
     }
 
     /// How often a block was erased, as its slot tells it: 0 where the slot holds no count.

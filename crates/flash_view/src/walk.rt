@@ -4,7 +4,7 @@ ghost use Rattle.nor_core.specs.Count.{Rose};
 ghost use Rattle.page_layout.specs.Layout.{header_at};
 ghost use Rattle.page_cache.specs.Frames.{holds};
 ghost use Rattle.geometry.specs.Numbers.{lookups, entries};
-ghost use Rattle.image_model.specs.Places.{block_of as the_block_of, entry_of};
+ghost use Rattle.image_model.specs.Places.{block_of as the_block_of, entry_of, has_magic};
 ghost use Rattle.image_model.specs.Live.{live_at};
 ghost use Rattle.flash_view.specs.Places.{IsEntryPage};
 ghost use Rattle.flash_view.specs.Same.{OnlyLooks};
@@ -144,7 +144,26 @@ impl<'b, N: Nor> View<'b, N> {
         ensures told { N.tells self.old.nor.now → entry ≡ entry_of self.old.geometry (N.bytes self.old.nor.now) page → IfOk result (λ head. head ≡ option_map header_at (live_at self.old.geometry (N.bytes self.old.nor.now) page)) }
         ensures work { self.new.work.now ≡ self.old.work.now }
     {
-        if !self.has_magic(block)? {
+        let has = self.has_magic(block)?;
+        self.named_header(has, page, entry)
+    }
+
+    // The same where it is known whether the block has its magic.
+    #[tactic(auto, unfolding(image_model::specs::Live::live_at, image_model::specs::Live::is_live, image_model::specs::Places::is_entry_page), using(crate::proofs::Looking::looks_then, crate::proofs::Looking::looks_none, crate::proofs::Parts::finished_is, page_cache::proofs::Held::holds_by))]
+    pub(crate) fn named_header(
+        &mut self,
+        has: bool,
+        page: u16,
+        entry: u16,
+    ) -> Result<Option<PageHeader>, Failed>
+        requires page { IsEntryPage self.old.geometry page }
+        ensures cause { OnErr result (Rose (N.faults self.old.nor.now) (N.faults self.new.nor.now)) }
+        ensures looks { OnlyLooks self.old self.new }
+        ensures held { IfOk result (λ head. IfSome head (λ h. holds self.new.geometry self.new.cache.now page ≡ true)) }
+        ensures told { N.tells self.old.nor.now → has ≡ has_magic self.old.geometry (N.bytes self.old.nor.now) (the_block_of self.old.geometry page) → entry ≡ entry_of self.old.geometry (N.bytes self.old.nor.now) page → IfOk result (λ head. head ≡ option_map header_at (live_at self.old.geometry (N.bytes self.old.nor.now) page)) }
+        ensures work { self.new.work.now ≡ self.old.work.now }
+    {
+        if !has {
             return Ok(None);
         }
         let f = self.bring(page)?;

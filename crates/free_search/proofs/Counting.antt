@@ -1,25 +1,31 @@
 -- The counts of a block's entries, entry after entry.
-use Rattle.std.proofs.Common.{◌≡◌, ℕ, ◌+◌, ◌-◌, ◌*◌, ◌<◌, ◌≤◌, List, Bool, true, false, not, ◌==◌, length, refl, sym, ◌∙◌, arith, ap, subst, ⊎_elim, if◌then◌else◌}
+use Rattle.std.proofs.Common.{◌≡◌, ◌≢◌, ℕ, ◌+◌, ◌-◌, ◌*◌, ◌<◌, ◌≤◌, List, Bool, true, false, not, ◌==◌, length, refl, sym, ◌∙◌, arith, ap, subst, ⊎_elim, if◌then◌else◌}
 use Rattle.std.specs.Prelude.{filter, Option, Some, None}
 use Rattle.std.specs.List.{range_with_len}
-use Rattle.std.proofs.lemmas.Bool.{cases_lt}
+use Rattle.std.proofs.lemmas.Bool.{cases_lt, cases_Bool, eqb-true}
+use Rattle.nor_core.specs.Flash.{word_at}
 use Rattle.geometry.specs.declared.geometry.Geometry.{Geometry}
 use Rattle.geometry.specs.Numbers.{per_block, lookups, entries}
+use Rattle.page_layout.specs.declared.header.PageHeader.{PageHeader}
+use Rattle.page_layout.specs.Layout.{header_at, names_index as names_index_head}
 use Rattle.image_model.specs.Headers.{names_index}
-use Rattle.image_model.specs.Places.{entry_of, erase_count, slot_of, block_of, is_entry_page}
+use Rattle.image_model.specs.Places.{page_of, entry_of, erase_count, slot_of, block_of, has_magic, is_entry_page}
 use Rattle.image_model.specs.Within.{entry_of_block}
-use Rattle.image_model.specs.Live.{live_at}
+use Rattle.image_model.specs.Live.{live_at, is_live}
 use Rattle.image_model.specs.Kinds.{is_index_page, is_data_page}
 use Rattle.image_model.specs.Collect.{index_in, data_in, deleted_in, is_deleted_entry}
 use Rattle.flash_view.specs.declared.counts.BlockCounts.{BlockCounts}
 use Rattle.flash_view.specs.declared.counts.Sort.{Sort}
 use Rattle.flash_view.specs.declared.counts.Sort.TheVariants.{Index, Data, Deleted, Free}
-use Rattle.flash_view.specs.Counts.{sort_of_page, one_more, more_free, total_of, AreCounts}
-use Rattle.flash_view.specs.Walk.{IsNextSlot, NextSlot}
-use Rattle.flash_view.proofs.Sorts.{free_is_dead}
+use Rattle.flash_view.specs.Counts.{sort_of_page, sort_at, one_more, total_of, AreCounts}
+use Rattle.flash_view.specs.Places.{IsEntryPage}
+use Rattle.flash_view.proofs.Heads.{entry_page_told, and_false}
+use Rattle.flash_view.proofs.Parts.{finished_is}
+use Rattle.flash_view.proofs.SlotHeld.{word_small}
+use Rattle.flash_view.proofs.Sorts.{free_is_dead, deleted_sort, used_sort}
 use Rattle.flash_view.proofs.Walking.{entry_is}
-use Rattle.free_search.proofs.Slots.{passed_free, used_entry}
-use Rattle.free_search.proofs.Scans.{count_start, count_yes, count_no, count_end, skip_no, skip_yes}
+use Rattle.free_search.specs.Counted.{sort_by_header, HasSlots, Counting, AreWords, IsCountedTo}
+use Rattle.free_search.proofs.Scans.{count_start, count_yes, count_no, count_end}
 
 -- which of the four tests an entry that isn't free passes, by what it counts as
 abbrev pub is_index_sort : Sort → Bool
@@ -55,13 +61,43 @@ used_passes g image p (Some page) live used =
     let all = page_passes (names_index page) in
     record { index = rw live all.0; pages = rw live all.1; deleted = rw (live, used) all.2; free = used ∙ all.3 }
 
--- those so far and those to come, of each sort
-pub record Counting (g : Geometry) (image : List ℕ) (first n i block : ℕ) (c : BlockCounts) : Type 0 where
-  pub index : c.index_live + length (filter (λ p. is_index_page (live_at g image p)) (range_with_len (first + i) (n - i))) ≡ index_in g image block
-  pub pages : c.data_live + length (filter (λ p. is_data_page (live_at g image p)) (range_with_len (first + i) (n - i))) ≡ data_in g image block
-  pub deleted : c.deleted + length (filter (λ p. is_deleted_entry g image p) (range_with_len (first + i) (n - i))) ≡ deleted_in g image block
-  pub free : c.free + length (filter (λ p. entry_of g image p == 0xFFFF) (range_with_len (first + i) (n - i))) ≡ length (filter (λ p. entry_of g image p == 0xFFFF) (range_with_len first n))
-  pub erases : c.erases ≡ erase_count g image block
+-- what an entry counts as tells which of the four tests it passes
+free_passes : (g : Geometry) (image : List ℕ) (p : ℕ) → entry_of g image p ≡ 0xFFFF → Passes g image p Free
+free_passes g image p ones =
+    let dead = free_is_dead g image p ones in
+    record { index = rw dead refl; pages = rw dead refl; deleted = rw (dead, ones) refl; free = rw ones refl }
+
+sort_passes : (g : Geometry) (image : List ℕ) (p : ℕ) (s : Sort) → s ≡ sort_at g image p → Passes g image p s
+unfolding sort_at
+sort_passes g image p s is = ⊎_elim
+    (λ (free : (entry_of g image p == 0xFFFF) ≡ true). let e : s ≡ Free = rw (is, free) refl in subst (Passes g image p) (sym e) (free_passes g image p (eqb-true (entry_of g image p) 0xFFFF free)))
+    (λ (used : (entry_of g image p == 0xFFFF) ≡ false). let e : s ≡ sort_of_page (live_at g image p) = rw (is, used) refl in subst (Passes g image p) (sym e) (used_passes g image p (live_at g image p) refl used))
+    (cases_Bool (entry_of g image p == 0xFFFF))
+
+-- ---- what an entry counts as, by its number and its page's header
+
+pub deleted_told : (g : Geometry) (image : List ℕ) (p entry : ℕ) → entry ≢ 0xFFFF → entry ≡ 0 → entry ≡ entry_of g image p → Deleted ≡ sort_at g image p
+deleted_told g image p entry used none is = used_sort g image p entry Deleted used is (deleted_sort g image p entry none is)
+
+no_magic : (g : Geometry) (image : List ℕ) (p : ℕ) → has_magic g image (block_of g p) ≡ false → live_at g image p ≡ None
+unfolding live_at is_live
+no_magic g image p none = rw (none, and_false (is_entry_page g p)) refl
+
+pub lacking_told : (g : Geometry) (image : List ℕ) (p entry : ℕ) (has : Bool) → entry ≢ 0xFFFF → has ≡ false → has ≡ has_magic g image (block_of g p) → entry ≡ entry_of g image p → Deleted ≡ sort_at g image p
+lacking_told g image p entry has used not_so told is =
+    let dead = no_magic g image p (sym told ∙ not_so) in
+    used_sort g image p entry Deleted used is (rw dead refl)
+
+by_if : (b : Bool) (page : List ℕ) → (if b then (if names_index_head (header_at page) then Index else Data) else Deleted) ≡ sort_of_page (if b then Some page else None)
+by_if true page = refl
+by_if false page = refl
+
+named_told : (g : Geometry) (image : List ℕ) (p entry : ℕ) (head : PageHeader) → IsEntryPage g p → has_magic g image (block_of g p) ≡ true → entry ≡ entry_of g image p → head ≡ header_at (page_of g image p) → sort_by_header entry head ≡ sort_of_page (live_at g image p)
+unfolding live_at is_live
+named_told g image p entry head place magic named is = rw (entry_page_told g p place, magic, named, is, finished_is (page_of g image p)) (by_if _ (page_of g image p))
+
+pub header_told : (g : Geometry) (image : List ℕ) (p entry : ℕ) (has : Bool) (head : PageHeader) (sort : Sort) → IsEntryPage g p → entry ≢ 0xFFFF → has ≡ true → has ≡ has_magic g image (block_of g p) → entry ≡ entry_of g image p → head ≡ header_at (page_of g image p) → sort ≡ sort_by_header entry head → sort ≡ sort_at g image p
+header_told g image p entry has head sort place used so told is head_is by = used_sort g image p entry sort used is (by ∙ named_told g image p entry head place (sym told ∙ so) is head_is)
 
 pub counting_start : (g : Geometry) (image : List ℕ) (block : ℕ) (c : BlockCounts) → c.index_live ≡ 0 → c.data_live ≡ 0 → c.deleted ≡ 0 → c.free ≡ 0 → c.erases ≡ erase_count g image block →
     Counting g image (block * per_block g + lookups g) (entries g) 0 block c
@@ -105,37 +141,6 @@ counting_more g image first n i block p c Free less was at_p w = record {
   erases = was.erases;
 }
 
--- free entries in a row
-pub counting_free : (g : Geometry) (image : List ℕ) (first n i j block : ℕ) (c : BlockCounts) → i ≤ j → j ≤ n → Counting g image first n i block c → ((k : ℕ) → i ≤ k → k < j → entry_of g image (first + k) ≡ 0xFFFF) →
-    Counting g image first n j block (more_free c (j - i))
-counting_free g image first n i j block c less most was ones =
-    let to : i + (j - i) ≡ j = omega arith in
-    let dead = λ (k : ℕ) (low : i ≤ k) (high : k < j). free_is_dead g image (first + k) (ones k low high) in
-    record {
-      index = skip_no (λ p. is_index_page (live_at g image p)) first n (j - i) i j _ _ to most was.index (λ k low high. rw (dead k low high) refl);
-      pages = skip_no (λ p. is_data_page (live_at g image p)) first n (j - i) i j _ _ to most was.pages (λ k low high. rw (dead k low high) refl);
-      deleted = skip_no (λ p. is_deleted_entry g image p) first n (j - i) i j _ _ to most was.deleted (λ k low high. rw (dead k low high, ones k low high) refl);
-      free = skip_yes (λ p. entry_of g image p == 0xFFFF) first n (j - i) i j _ _ to most was.free (λ k low high. rw (ones k low high) refl);
-      erases = was.erases;
-    }
-
--- ---- entries that were counted are numbers of two bytes
-
-abbrev pub AreWords : Geometry → List ℕ → (block n : ℕ) → Type 0
-AreWords g image block n = (i : ℕ) → i < n → slot_of g image block i < 0x10000
-
-pub words_on : (g : Geometry) (image : List ℕ) (block at i n : ℕ) → IsNextSlot g image block at 0 0xFFFE i n → AreWords g image block at → AreWords g image block (i + 1)
-words_on g image block at i n found was k few = ⊎_elim
-    (λ (early : k < at). was k early)
-    (λ (late : at ≤ k). ⊎_elim
-    (λ (before : k < i). (found.passed k late before).word)
-    (λ (here : i ≤ k). let same : i ≡ k = omega (arith, few, here) in subst (λ (j : ℕ). slot_of g image block j < 0x10000) same (subst (λ (m : ℕ). m < 0x10000) found.number found.word))
-    (cases_lt k i))
-    (cases_lt k at)
-
-words_last : (g : Geometry) (image : List ℕ) (block at : ℕ) → NextSlot g image block at 0 0xFFFE None → AreWords g image block at → AreWords g image block (entries g)
-words_last g image block at none was k few = ⊎_elim (λ (early : k < at). was k early) (λ (late : at ≤ k). (none k late few).word) (cases_lt k at)
-
 words_told : (g : Geometry) (image : List ℕ) (block : ℕ) → AreWords g image block (entries g) → (p : ℕ) → is_entry_page g p ≡ true → block_of g p ≡ block → entry_of g image p < 0x10000
 words_told g image block words p page here =
     let w = entry_of_block g p page in
@@ -155,20 +160,6 @@ counting_end g image block first n i c at_first at_n most words was = record {
   words = words_told g image block words;
 }
 
--- free entries in a row, and the used one behind them
-pub counting_on : (g : Geometry) (image : List ℕ) (block at i n p : ℕ) (c : BlockCounts) (s : Sort) → at ≤ i → i < entries g → IsNextSlot g image block at 0 0xFFFE i n → p ≡ block * per_block g + lookups g + i → s ≡ sort_of_page (live_at g image p) →
-    Counting g image (block * per_block g + lookups g) (entries g) at block c → Counting g image (block * per_block g + lookups g) (entries g) (i + 1) block (one_more (more_free c (i - at)) s)
-counting_on g image block at i n p c s low few found place sort was =
-    let free = counting_free g image (block * per_block g + lookups g) (entries g) at i block c low (omega (arith, few)) was (λ k from to. passed_free g image block k (omega (arith, to, few)) (found.passed k from to)) in
-    counting_more g image (block * per_block g + lookups g) (entries g) i block p (more_free c (i - at)) s few free (sym place)
-    (subst (Passes g image p) (sym sort) (used_passes g image p (live_at g image p) refl (used_entry g image block at i n p few found place)))
-
-pub counting_last : (g : Geometry) (image : List ℕ) (block at : ℕ) (c : BlockCounts) → at ≤ entries g → NextSlot g image block at 0 0xFFFE None → AreWords g image block at → Counting g image (block * per_block g + lookups g) (entries g) at block c →
-    AreCounts g image block (more_free c (entries g - at))
-counting_last g image block at c low none words was =
-    counting_end g image block (block * per_block g + lookups g) (entries g) (entries g) (more_free c (entries g - at)) refl refl (omega arith) (words_last g image block at none words)
-    (counting_free g image (block * per_block g + lookups g) (entries g) at (entries g) block c low (omega arith) was (λ k from to. passed_free g image block k to (none k from to)))
-
 -- one entry more was counted
 pub total_more : (c : BlockCounts) (s : Sort) → total_of (one_more c s) ≡ total_of c + 1
 total_more c Index = omega arith
@@ -176,5 +167,27 @@ total_more c Data = omega arith
 total_more c Deleted = omega arith
 total_more c Free = omega arith
 
-pub total_free : (c : BlockCounts) (n : ℕ) → total_of (more_free c n) ≡ total_of c + n
-total_free c n = omega arith
+-- ---- entry after entry
+
+pub counted_start : (g : Geometry) (image : List ℕ) (block : ℕ) (c : BlockCounts) → c.index_live ≡ 0 → c.data_live ≡ 0 → c.deleted ≡ 0 → c.free ≡ 0 → c.erases ≡ erase_count g image block → IsCountedTo g image block 0 c
+counted_start g image block c a b d e erases = record { counts = counting_start g image block c a b d e erases; words = λ i none. absurd (omega (arith, none)) }
+
+pub counted_on : (g : Geometry) (image : List ℕ) (block at p : ℕ) (c : BlockCounts) (s : Sort) → at < entries g → p ≡ block * per_block g + lookups g + at → s ≡ sort_at g image p → slot_of g image block at < 0x10000 → IsCountedTo g image block at c → IsCountedTo g image block (at + 1) (one_more c s)
+counted_on g image block at p c s below place sort word was = record {
+  counts = counting_more g image (block * per_block g + lookups g) (entries g) at block p c s below was.counts (sym place) (sort_passes g image p s sort);
+  words = λ k few. ⊎_elim
+      (λ (early : k < at). was.words k early)
+      (λ (late : at ≤ k). let same : at ≡ k = omega (arith, few, late) in subst (λ (j : ℕ). slot_of g image block j < 0x10000) same word)
+      (cases_lt k at);
+}
+
+pub counted_all : (g : Geometry) (image : List ℕ) (block at : ℕ) (c : BlockCounts) → entries g ≤ at → at ≤ entries g → IsCountedTo g image block at c → AreCounts g image block c
+counted_all g image block at c full most was =
+    counting_end g image block (block * per_block g + lookups g) (entries g) at c refl refl full (λ i few. was.words i (omega (arith, few, full))) was.counts
+
+-- of slots that were read, entry `start + i` is the one of its page
+pub slot_told : (g : Geometry) (image bytes : List ℕ) (block start count i p entry : ℕ) → HasSlots g image bytes block start count → start + count ≤ entries g → i < count → p ≡ block * per_block g + lookups g + (start + i) → entry ≡ word_at bytes (2 * i) → entry ≡ entry_of g image p
+slot_told g image bytes block start count i p entry has few below place is = is ∙ has.slots i below ∙ sym (entry_is g image block (start + i) (omega (arith, few, below))) ∙ sym (ap (entry_of g image) place)
+
+pub slot_word : (g : Geometry) (image bytes : List ℕ) (block start count i : ℕ) → HasSlots g image bytes block start count → i < count → slot_of g image block (start + i) < 0x10000
+slot_word g image bytes block start count i has below = subst (λ (n : ℕ). n < 0x10000) (has.slots i below) (word_small bytes (2 * i) has.small)

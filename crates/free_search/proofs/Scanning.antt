@@ -30,6 +30,7 @@ use Rattle.flash_view.proofs.RowPassed.{table_passed}
 use Rattle.flash_view.proofs.Rows.{table_magic}
 use Rattle.flash_view.proofs.SlotHeld.{some_pages, word_small, slot_held}
 use Rattle.flash_view.proofs.Walking.{seen_live, unseen_live, entry_is, found_block}
+use Rattle.free_search.specs.Counted.{HasSlots}
 use Rattle.free_search.specs.Ids.{head_id, Notes, unused_id}
 use Rattle.free_search.specs.Naming.{Scanned, IsIndexEntry, AreSlots, LacksIndex, first_entry}
 use Rattle.free_search.proofs.Bits.{noted_over, noted_on, noted_all}
@@ -124,10 +125,9 @@ module _ (g : Geometry) (image : List ℕ) where
       }
 
   -- the slots in a part of a lookup page are those of a block
-  pub are_slots : (bytes : List ℕ) (block k start count at n : ℕ) → has_magic g image block ≡ true → ((j : ℕ) → slice_index bytes j < 256) → k * (g.page / 2) ≤ start → start + count ≤ k * (g.page / 2) + g.page / 2 → at ≡ 2 * (start - k * (g.page / 2)) → n ≡ 2 * count →
-      bytes ≡ slice_range (page_of g image (block * per_block g + k)) at (at + n) → AreSlots g image bytes block start count
-  are_slots bytes block k start count at n magic small low high at_is n_is is = record {
-    magic = magic;
+  pub has_slots : (bytes : List ℕ) (block k start count at n : ℕ) → ((j : ℕ) → slice_index bytes j < 256) → k * (g.page / 2) ≤ start → start + count ≤ k * (g.page / 2) + g.page / 2 → at ≡ 2 * (start - k * (g.page / 2)) → n ≡ 2 * count →
+      bytes ≡ slice_range (page_of g image (block * per_block g + k)) at (at + n) → HasSlots g image bytes block start count
+  has_slots bytes block k start count at n small low high at_is n_is is = record {
     small = small;
     slots = λ i below.
         let page = page_of g image (block * per_block g + k) in
@@ -139,6 +139,12 @@ module _ (g : Geometry) (image : List ℕ) where
         let sum : k * (g.page / 2) + (start - k * (g.page / 2) + i) ≡ start + i = omega (arith, low) in
         word ∙ slot_held g image (g.page / 2) block k (start - k * (g.page / 2) + i) refl (omega (arith, low, high, below)) ∙ ap (slot_of g image block) sum;
   }
+
+  pub are_slots : (bytes : List ℕ) (block k start count at n : ℕ) → has_magic g image block ≡ true → ((j : ℕ) → slice_index bytes j < 256) → k * (g.page / 2) ≤ start → start + count ≤ k * (g.page / 2) + g.page / 2 → at ≡ 2 * (start - k * (g.page / 2)) → n ≡ 2 * count →
+      bytes ≡ slice_range (page_of g image (block * per_block g + k)) at (at + n) → AreSlots g image bytes block start count
+  are_slots bytes block k start count at n magic small low high at_is n_is is =
+      let has = has_slots bytes block k start count at n small low high at_is n_is is in
+      record { magic = magic; small = has.small; slots = has.slots }
 
   -- which lookup page has an entry
   pub part_below : (at : ℕ) → at < entries g → at / (g.page / 2) < lookups g

@@ -1,4 +1,5 @@
 pub mod ByRows
+pub mod Counted
 pub mod Counts
 pub mod Free
 pub mod Had

@@ -124,10 +124,11 @@ fn less_worn_row(rows: &[u8], entries: u32, least: Option<Worn>, block: u16) -> 
     ensures { result ≡ worn_by_row rows.now entries least block }
 {
     let at = 16 * usize::from(block);
-    if u32::from(read_word(rows, at + 6)) != entries {
+    let row = &rows[at..at + 10];
+    if u32::from(read_word(row, 6)) != entries {
         return least;
     }
-    let erases = read_word(rows, at + 8);
+    let erases = read_word(row, 8);
     match least {
         Some(worn) if worn.erases <= erases => Some(worn),
         _ => Some(Worn { block, erases }),

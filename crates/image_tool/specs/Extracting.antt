@@ -1,5 +1,5 @@
 -- How an extraction ends.
-use Rattle.std.specs.Prelude.{ℕ, ◌≡◌, List, ◌++◌, Result, Ok, Err}
+use Rattle.std.specs.Prelude.{ℕ, ◌≡◌, ◌≢◌, List, ◌++◌, Result, Ok, Err}
 use Rattle.nor_core.specs.declared.state.NorState.{Ghosts as NorOf}
 use Rattle.table_model.specs.Table.{File}
 use Rattle.folder_core.specs.declared.state.FolderState.{Ghosts as FolderOf}
@@ -8,6 +8,12 @@ use Rattle.image_tool.specs.declared.error.ExtractErr.TheVariants.{BoardFault, F
 use Rattle.image_tool.specs.Texts.{record_lines}
 use Rattle.image_tool.specs.Saying.{SaysFront}
 use Rattle.image_tool.specs.Putting.{folder_files, PutsFiles, PartlyPuts}
+
+-- of a page that reads otherwise, what was wanted there and what was found differ
+abbrev pub IsApart : ExtractErr → Type 0
+IsApart BoardFault = Unit {0}
+IsApart FolderFault = Unit {0}
+IsApart (Damaged differ) = differ.wanted ≢ differ.found
 
 -- the lines of the first files of a table were said
 pub record SaysLines {D : Type 0} (nor : NorOf D) (old new : D) (table : List File) : Type 0 where

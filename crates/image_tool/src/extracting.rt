@@ -1,4 +1,4 @@
-ghost use Rattle.std.specs.Prelude.{◌≡◌, ◌<◌, ◌≤◌, length, IfOk, IsErrOf};
+ghost use Rattle.std.specs.Prelude.{◌≡◌, ◌<◌, ◌≤◌, length, IfOk, IfErr, IsErrOf};
 ghost use Rattle.std.specs.Option.{option_map, IfSome};
 ghost use Rattle.geometry.specs.Numbers.{check_need};
 ghost use Rattle.nor_core.specs.Count.{Rose};
@@ -6,7 +6,7 @@ ghost use Rattle.table_model.specs.Table.{file_above};
 ghost use Rattle.image_model.specs.Tables.{table_of, damaged_of};
 ghost use Rattle.flash_view.specs.Same.{IsSameView};
 ghost use Rattle.file_find.specs.Marks.{IsMarked};
-ghost use Rattle.image_tool.specs.Extracting.{ExtractsTo};
+ghost use Rattle.image_tool.specs.Extracting.{IsApart, ExtractsTo};
 ghost use Rattle.image_tool.specs.Lists.{list_of, next_record as the_next_record};
 ghost use Rattle.image_tool.specs.Putting.{FolderGoes};
 ghost use Rattle.image_tool.specs.Saying.{OnlySays};
@@ -34,6 +34,7 @@ fn extract_next<B: Board, F: Folder>(
     requires marked { B.tells v.old.nor.now → IsMarked v.old.geometry (B.bytes v.old.nor.now) marks.now }
     requires line { 12288 ≤ length line.old }
     ensures cause { IsErrOf result ExtractErr.BoardFault → Rose (B.faults v.old.nor.now) (B.faults v.new.nor.now) }
+    ensures apart { IfErr result IsApart }
     ensures folder_cause { IsErrOf result ExtractErr.FolderFault → Rose (F.faults folder.old) (F.faults folder.new) }
     ensures same { IsSameView v.old v.new }
     ensures goes { FolderGoes F.FolderState folder.old folder.new }
@@ -66,6 +67,7 @@ fn extract_files<B: Board, F: Folder>(
     requires marked { B.tells v.old.nor.now → IsMarked v.old.geometry (B.bytes v.old.nor.now) marks.now }
     requires line { 12288 ≤ length line.old }
     ensures cause { IsErrOf result ExtractErr.BoardFault → Rose (B.faults v.old.nor.now) (B.faults v.new.nor.now) }
+    ensures apart { IfErr result IsApart }
     ensures folder_cause { IsErrOf result ExtractErr.FolderFault → Rose (F.faults folder.old) (F.faults folder.new) }
     ensures same { IsSameView v.old v.new }
     ensures goes { FolderGoes F.FolderState folder.old folder.new }
@@ -93,6 +95,7 @@ fn extract_marked<B: Board, F: Folder>(
     requires marked { B.tells v.old.nor.now → IsMarked v.old.geometry (B.bytes v.old.nor.now) marks.now }
     requires line { 12288 ≤ length line.old }
     ensures cause { IsErrOf result ExtractErr.BoardFault → Rose (B.faults v.old.nor.now) (B.faults v.new.nor.now) }
+    ensures apart { IfErr result IsApart }
     ensures folder_cause { IsErrOf result ExtractErr.FolderFault → Rose (F.faults folder.old) (F.faults folder.new) }
     ensures same { IsSameView v.old v.new }
     ensures goes { FolderGoes F.FolderState folder.old folder.new }
@@ -125,6 +128,7 @@ pub fn extract<B: Board, F: Folder>(
     requires room { check_need v.old.geometry ≤ length marks.old }
     requires line { 12288 ≤ length line.old }
     ensures cause { IsErrOf result ExtractErr.BoardFault → Rose (B.faults v.old.nor.now) (B.faults v.new.nor.now) }
+    ensures apart { IfErr result IsApart }
     ensures folder_cause { IsErrOf result ExtractErr.FolderFault → Rose (F.faults folder.old) (F.faults folder.new) }
     ensures same { IsSameView v.old v.new }
     ensures goes { FolderGoes F.FolderState folder.old folder.new }

@@ -1,5 +1,5 @@
 // Putting the bytes of a file into a folder.
-ghost use Rattle.std.specs.Prelude.{◌≡◌, ◌≢◌, ◌+◌, ◌<◌, ◌≤◌, length, IfOk, IsErrOf, OnOk};
+ghost use Rattle.std.specs.Prelude.{◌≡◌, ◌≢◌, ◌+◌, ◌<◌, ◌≤◌, length, IfOk, IfErr, IsErrOf, OnOk};
 ghost use Rattle.geometry.specs.Numbers.{page_count};
 ghost use Rattle.nor_core.specs.Count.{Rose};
 ghost use Rattle.table_model.specs.Table.{File};
@@ -7,6 +7,7 @@ ghost use Rattle.table_model.specs.Files.{bytes_at};
 ghost use Rattle.folder_core.specs.Files.{Named};
 ghost use Rattle.flash_view.specs.Same.{OnlyLooks};
 ghost use Rattle.file_read.specs.Whole.{IsFileAt};
+ghost use Rattle.image_tool.specs.Extracting.{IsApart};
 ghost use Rattle.image_tool.specs.Pieces.{PutsPiece, PutsBytes};
 ghost use Rattle.image_tool.specs.Putting.{FolderGoes};
 
@@ -30,6 +31,7 @@ fn put_piece<N: Nor, F: Folder>(
     requires header { header < page_count v.old.geometry }
     requires there { at ≢ 0 → Named stat.now.name (F.entries folder.old) }
     ensures cause { IsErrOf result ExtractErr.BoardFault → Rose (N.faults v.old.nor.now) (N.faults v.new.nor.now) }
+    ensures apart { IfErr result IsApart }
     ensures folder_cause { IsErrOf result ExtractErr.FolderFault → Rose (F.faults folder.old) (F.faults folder.new) }
     ensures looks { OnlyLooks v.old v.new }
     ensures goes { FolderGoes F.FolderState folder.old folder.new }
@@ -61,6 +63,7 @@ pub(crate) fn put_bytes<N: Nor, F: Folder>(
     requires header { header < page_count v.old.geometry }
     requires room { 0 < length piece.old }
     ensures cause { IsErrOf result ExtractErr.BoardFault → Rose (N.faults v.old.nor.now) (N.faults v.new.nor.now) }
+    ensures apart { IfErr result IsApart }
     ensures folder_cause { IsErrOf result ExtractErr.FolderFault → Rose (F.faults folder.old) (F.faults folder.new) }
     ensures looks { OnlyLooks v.old v.new }
     ensures goes { FolderGoes F.FolderState folder.old folder.new }

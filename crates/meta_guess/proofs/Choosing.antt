@@ -71,7 +71,7 @@ module _ (g : Geometry) (image : List ℕ) where
   pub guess_given : (given : Counts) (meta : ℕ) → CountsOf g image given → given.damaged ≡ 0 → meta ≡ g.meta → IsGuess g image (record { given = given; meta = meta; best = given })
   guess_given given meta counts none is = record {
     given = counts;
-    best = record { volume = g; is = record { same = record { page = refl; block = refl; blocks = refl; phys = refl; magic = refl }; meta_is = sym is }; counts_are = counts };
+    best = record { volume = g; is = record { same = record { page_is = refl; block_is = refl; blocks_is = refl; phys_is = refl; meta_is = refl; magic_is = refl }; meta_is = sym is }; counts_are = counts };
     most = λ h same. let sum = same_sum g h image same in omega (arith, sum, counts.whole, counts.damaged, none);
     fewest = λ h same. omega (arith, none);
     stays = λ zero. is;

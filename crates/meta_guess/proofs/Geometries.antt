@@ -9,19 +9,19 @@ use Rattle.meta_guess.specs.Guesses.{SameBut}
 -- a geometry of the same numbers but for the meta bytes is one of these numbers
 each_but : (g h : Geometry) → SameBut g h → IsEach h g.page g.block g.blocks g.phys h.meta g.magic
 each_but g h same =
-    let first = subst (λ (x : ℕ). IsEach h x h.block h.blocks h.phys h.meta h.magic) same.page (is_each h) in
-    let second = subst (λ (x : ℕ). IsEach h g.page x h.blocks h.phys h.meta h.magic) same.block first in
-    let third = subst (λ (x : ℕ). IsEach h g.page g.block x h.phys h.meta h.magic) same.blocks second in
-    let fourth = subst (λ (x : ℕ). IsEach h g.page g.block g.blocks x h.meta h.magic) same.phys third in
-    subst (λ (x : MagicKind). IsEach h g.page g.block g.blocks g.phys h.meta x) same.magic fourth
+    let first = subst (λ (x : ℕ). IsEach h x h.block h.blocks h.phys h.meta h.magic) same.page_is (is_each h) in
+    let second = subst (λ (x : ℕ). IsEach h g.page x h.blocks h.phys h.meta h.magic) same.block_is first in
+    let third = subst (λ (x : ℕ). IsEach h g.page g.block x h.phys h.meta h.magic) same.blocks_is second in
+    let fourth = subst (λ (x : ℕ). IsEach h g.page g.block g.blocks x h.meta h.magic) same.phys_is third in
+    subst (λ (x : MagicKind). IsEach h g.page g.block g.blocks g.phys h.meta x) same.magic_is fourth
 
 -- it meets the rules of these numbers
 valid_but : (g h : Geometry) → SameBut g h → IsVolume g.page g.block g.blocks g.phys h.meta
 valid_but g h same =
-    let first = subst (λ (x : ℕ). IsVolume x h.block h.blocks h.phys h.meta) same.page h.valid in
-    let second = subst (λ (x : ℕ). IsVolume g.page x h.blocks h.phys h.meta) same.block first in
-    let third = subst (λ (x : ℕ). IsVolume g.page g.block x h.phys h.meta) same.blocks second in
-    subst (λ (x : ℕ). IsVolume g.page g.block g.blocks x h.meta) same.phys third
+    let first = subst (λ (x : ℕ). IsVolume x h.block h.blocks h.phys h.meta) same.page_is h.valid in
+    let second = subst (λ (x : ℕ). IsVolume g.page x h.blocks h.phys h.meta) same.block_is first in
+    let third = subst (λ (x : ℕ). IsVolume g.page g.block x h.phys h.meta) same.blocks_is second in
+    subst (λ (x : ℕ). IsVolume g.page g.block g.blocks x h.meta) same.phys_is third
 
 -- the same geometry with these meta bytes
 unfoldable pub with_meta : (g : Geometry) (meta : ℕ) → IsVolume g.page g.block g.blocks g.phys meta → Geometry

@@ -1,7 +1,7 @@
 -- What a volume holds by different numbers of meta bytes, and which number reads most.
 use Rattle.std.specs.Prelude.{ℕ, ◌≡◌, ◌+◌, ◌*◌, ◌<◌, ◌≤◌, List, length}
 use Rattle.geometry.specs.declared.geometry.Geometry.{Geometry}
-use Rattle.geometry.specs.Numbers.{page_count}
+use Rattle.geometry.specs.Numbers.{page_count, IsOf}
 use Rattle.nor_core.specs.Count.{Rose}
 use Rattle.nor_core.specs.declared.state.NorState.{Ghosts as NorOf}
 use Rattle.image_model.specs.Tables.{table_of, damaged_of}
@@ -14,12 +14,8 @@ pub record CountsOf (g : Geometry) (image : List ℕ) (counts : Counts) : Type 0
   pub damaged : counts.damaged ≡ length (damaged_of g image)
 
 -- the same numbers but for the meta bytes
-pub record SameBut (g h : Geometry) : Type 0 where
-  pub page : h.page ≡ g.page
-  pub block : h.block ≡ g.block
-  pub blocks : h.blocks ≡ g.blocks
-  pub phys : h.phys ≡ g.phys
-  pub magic : h.magic ≡ g.magic
+abbrev pub SameBut : Geometry → Geometry → Type 0
+SameBut g h = IsOf h g.page g.block g.blocks g.phys h.meta g.magic
 
 -- the same numbers, with so many meta bytes
 pub record IsMeta (g : Geometry) (meta : ℕ) (h : Geometry) : Type 0 where

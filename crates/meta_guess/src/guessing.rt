@@ -12,8 +12,8 @@ use nor_core::{Failed, Nor, NorState};
 // The most meta bytes that a file has.
 const MOST_META: u32 = 64;
 
-// The same volume with another number of meta bytes.
-fn with_meta(g: &Geometry, meta: u32) -> Geometry
+/// The same volume with another number of meta bytes.
+pub fn with_meta(g: &Geometry, meta: u32) -> Geometry
     requires { meta ≤ 64 }
     ensures { IsMeta g.now meta result }
 {

@@ -7,4 +7,4 @@ mod guessing;
 
 pub use counting::count_files;
 pub use counts::{Counts, Guess};
-pub use guessing::guess_meta;
+pub use guessing::{guess_meta, with_meta};

@@ -46,6 +46,7 @@ module _ {N : Type 0} {nor : NorOf N} {step : Step (Unit {0})} where
     means = means_no_more r;
     cuts = (looked_on looks call).cuts;
     ends = λ tells need. on_fault r _ is;
+    trims = (looked_on looks call).trims;
   }
 
   -- a count after the step
@@ -56,6 +57,7 @@ module _ {N : Type 0} {nor : NorOf N} {step : Step (Unit {0})} where
     means = means_no_more r;
     cuts = read_after call.cuts counts.reads;
     ends = λ tells need. ended r _ (λ y. subst (λ (b : List ℕ). step.done old.geometry (nor.bytes old.nor.now) b y) (sym counts.reads.bytes) (call.ends tells need));
+    trims = read_after call.trims counts.reads;
   }
 
 -- ---- of what is built in bytes for work that stay in the look

@@ -19,6 +19,7 @@ use Rattle.image_laws.proofs.Kill.{deleted_from_flag}
 use Rattle.image_laws.proofs.LiveStep.{kill-changes}
 use Rattle.image_laws.proofs.Placing.{page_byte}
 use Rattle.image_laws.proofs.TidySteps.{agree_page, agree_entry, agree-on, wide_flags, zeroed}
+use Rattle.trim_laws.proofs.Trims.{same_trims, kill_trims}
 use Rattle.flash_view.specs.Steps.{Finishes, making}
 use Rattle.page_put.specs.Kills.{deleted, killed, HalfKilled}
 use Rattle.page_put.specs.LivePages.{IsKillable, killing, IsDead, Stays, Cleared, clearing}
@@ -66,7 +67,7 @@ kills g a p is can =
     let page = some_page (live_at g a p) can.live in
     let clears : ClearsBit 7 (slice_index a (p * g.page + 4)) (flags_left g a p) = clears_deleted (slice_index a (p * g.page + 4)) can.byte (set_in g a p page.0 page.1) in
     let law = kill-changes g a (deleted g p a) (killed g p a) p (flags_left g a p) page.0 is page.1 clears (kill_done g a p) in
-    record { needs = tt; cut = λ c h. law.0 c (kill_cut g a c p h); done = λ c ok e. subst (λ (l : List ℕ). KillDone g p a l) (sym e) law.1 }
+    record { needs = λ c h. kill_trims g a c p (inl (law.0 c (kill_cut g a c p h))); cut = λ c h. law.0 c (kill_cut g a c p h); done = λ c ok e. subst (λ (l : List ℕ). KillDone g p a l) (sym e) law.1 }
 
 -- ---- of a page that isn't live
 
@@ -94,12 +95,15 @@ module _ (g : Geometry) (a : List ℕ) (p : ℕ) (is : IsImage g a) (can : IsDea
   cleared : Cleared g p a (killed g p a)
   cleared = record { stays = entry_stays (killed g p a) (torn_from _ _ _ _ (kill_done g a p).clear); zero = zeroed g (deleted g p a) (killed g p a) p (kill_done g a p).clear }
 
+  stays : (c : List ℕ) → HalfKilled g p a c → Stays g p a c
+  stays c h = ⊎_elim
+      (λ (x : HalfProgrammed (p * g.page + 4) (flags_left g a p ∷ []) a c). flags_stay c x)
+      (λ (y : HalfProgrammed (entry_at g p) (0 ∷ 0 ∷ []) (deleted g p a) c). entry_stays c y)
+      (kill_cut g a c p h)
+
   pub clears_dead : Finishes g a a (making (λ h. HalfKilled h p) (λ h. killed h p)) (clearing p)
   clears_dead = record {
-    needs = tt;
-    cut = λ c h. ⊎_elim
-        (λ (x : HalfProgrammed (p * g.page + 4) (flags_left g a p ∷ []) a c). flags_stay c x)
-        (λ (y : HalfProgrammed (entry_at g p) (0 ∷ 0 ∷ []) (deleted g p a) c). entry_stays c y)
-        (kill_cut g a c p h);
+    needs = λ c h. same_trims g a c (stays c h).live;
+    cut = stays;
     done = λ c ok e. subst (λ (l : List ℕ). Cleared g p a l) (sym e) cleared;
   }

@@ -14,11 +14,14 @@ use Rattle.image_model.specs.Headers.{obj_id, is_finished}
 use Rattle.image_laws.specs.Programs.{ClearsBit}
 use Rattle.image_laws.specs.Put.{IsReadyPage}
 use Rattle.image_laws.specs.LiveSteps.{PutCut, PutLeaves, PutDone}
+use Rattle.image_laws.proofs.Finished.{torn_from}
 use Rattle.image_laws.proofs.LiveStep.{put-changes}
 use Rattle.image_laws.proofs.PutStep.{byte3}
 use Rattle.flash_view.specs.Steps.{Begins, Finishes, making}
 use Rattle.page_put.specs.Placing.{placed_flags, finished_flags, placed_page, with_entry, with_header, with_page, IsPlacing}
 use Rattle.page_put.specs.LivePages.{finished_page, IsPuttable, putting}
+use Rattle.trim_laws.specs.Trim.{Trims}
+use Rattle.trim_laws.proofs.Trims.{put_trims, put_back}
 use Rattle.page_put.proofs.Finishing.{programs_place, finish_clears_final}
 
 -- ---- the page is ready to be put
@@ -82,9 +85,16 @@ module _ (g : Geometry) (a : List ℕ) (p : ℕ) (kind : Kind) (tag : Tag) (buil
       (record { placed = programs_place g p page a; finish = (finish_clears_final kind _ _ flags).1 })
 
   pub places : Begins g a (making (λ h. IsPlacing h p (placed_page h kind tag built)) (λ h. with_page h p (placed_page h kind tag built))) (putting p kind tag built)
-  places = record { needs = tt; cut = λ c h. law.0 c (inl h) }
+  places = record { needs = λ c h. put_trims g a c p (finished_page g kind tag built) can.trim (inl (law.0 c (inl h))); cut = λ c h. law.0 c (inl h) }
+
+  -- the page that is placed adds nothing to the live pages
+  finish_trims : (c : List ℕ) → HalfProgrammed (p * g.page + 4) (0xFD ∷ []) placed c → Trims g placed c
+  finish_trims c h trim =
+      let page_is : List ℕ = finished_page g kind tag built in
+      let there : PutLeaves g p page_is a placed = law.0 placed (inl (inr (inr (torn_from _ _ _ _ (programs_place g p page a).three)))) in
+      put_trims g a c p page_is can.trim (inl (law.0 c (inr ((finish_clears_final kind _ _ flags).0 c h)))) (put_back g a placed p page_is there trim)
 
   pub finishes : (b : List ℕ) → b ≡ placed → Finishes g a b (making (λ h. HalfProgrammed (p * h.page + 4) (0xFD ∷ [])) (λ h b. programmed b (p * h.page + 4) (0xFD ∷ []))) (putting p kind tag built)
   finishes b e =
       subst (λ (l : List ℕ). Finishes g a l (making (λ h. HalfProgrammed (p * h.page + 4) (0xFD ∷ [])) (λ h b. programmed b (p * h.page + 4) (0xFD ∷ []))) (putting p kind tag built)) (sym e)
-      (record { needs = tt; cut = λ c h. law.0 c (inr ((finish_clears_final kind _ _ flags).0 c h)); done = λ c ok now. subst (λ (l : List ℕ). PutDone g p (finished_page g kind tag built) a l) (sym now) law.1 })
+      (record { needs = finish_trims; cut = λ c h. law.0 c (inr ((finish_clears_final kind _ _ flags).0 c h)); done = λ c ok now. subst (λ (l : List ℕ). PutDone g p (finished_page g kind tag built) a l) (sym now) law.1 })

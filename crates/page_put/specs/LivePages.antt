@@ -10,6 +10,7 @@ use Rattle.image_laws.specs.Put.{IsReadyPage}
 use Rattle.image_laws.specs.TidySteps.{Agree}
 use Rattle.flash_view.specs.declared.kinds.Kind.{Kind}
 use Rattle.flash_view.specs.Steps.{Step}
+use Rattle.trim_laws.specs.Steps.{IsTrimHead}
 use Rattle.page_put.specs.Placing.{placed_id, finished_flags, placed_page}
 
 -- page p is live, and its flags are a byte
@@ -45,10 +46,11 @@ abbrev pub finished_page : Geometry → Kind → Tag → List ℕ → List ℕ
 finished_page g kind tag built =
     (placed_id kind tag.id % 256 ∷ placed_id kind tag.id / 256 ∷ tag.span % 256 ∷ tag.span / 256 ∷ finished_flags kind ∷ []) ++ slice_range built 5 g.page
 
--- page p is free, and what is to be put there is a page that is live once it is finished
+-- page p is free, and what is to be put there is a page that is live once it is finished; a header page names no page behind the last one of its file
 pub record IsPuttable (g : Geometry) (image : List ℕ) (p : ℕ) (kind : Kind) (tag : Tag) (built : List ℕ) : Type 0 where
   pub free : IsFreePage g image p
   pub ready : IsReadyPage g (placed_page g kind tag built) (finished_flags kind)
+  pub trim : IsTrimHead g (finished_page g kind tag built)
 
 abbrev pub putting : ℕ → Kind → Tag → List ℕ → Step (Unit {0})
 putting p kind tag built = record {

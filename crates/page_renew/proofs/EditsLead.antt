@@ -34,10 +34,11 @@ use Rattle.renew_laws.proofs.RenewTidy.{rename-tidies}
 use Rattle.renew_laws.proofs.Truncating.{truncated-leads}
 use Rattle.page_renew.specs.declared.edits.Edit.{Edit}
 use Rattle.page_renew.specs.declared.edits.Edit.TheVariants.{Name, Meta, Cut, Grow, GrowBy}
-use Rattle.page_renew.specs.Edits.{edited_size, edited_name, edited_meta, IsEdited}
+use Rattle.page_renew.specs.Edits.{edited_size, edited_name, edited_meta, IsEdited, TakesNext}
 use Rattle.page_renew.specs.EditLaws.{edited_file, AddsNone, Adds, EditSays, EditTidies, Grows, GrowSays, GrowTidies, EditKeepsEntries, EditNamesNext}
 use Rattle.page_renew.specs.Renewals.{CanSay, EditDone}
 use Rattle.page_renew.proofs.Homes.{index_some}
+use Rattle.page_renew.proofs.Trimmed.{edited_trims}
 
 -- ---- page numbers
 
@@ -91,9 +92,10 @@ module _ (g : Geometry) (a b : List ℕ) (id h : ℕ) (head : List ℕ) (f : Fil
   edited_head : (edit : Edit) (y : List ℕ) → IsEdited g head edit y → IsHead id y
   edited_head edit y edited = let same = edited.id in record { index = rw same is_head.index; of = rw same is_head.of; first = edited.span ∙ is_head.first }
 
-  leads_to : (edit : Edit) (f' : File) → ((y : List ℕ) → IsEdited g head edit y → judged g (own (live_at g b) id) id y ≡ Ok f') → All (λ x. x.id ≢ id → x.name ≢ f'.name) (table_of g b) → CanSay g b id h edit head f'
-  leads_to edit f' file names = record {
+  leads_to : (edit : Edit) (f' : File) → TakesNext g edit (size_of head) → ((y : List ℕ) → IsEdited g head edit y → judged g (own (live_at g b) id) id y ≡ Ok f') → All (λ x. x.id ≢ id → x.name ≢ f'.name) (table_of g b) → CanSay g b id h edit head f'
+  leads_to edit f' takes file names = record {
     one = one;
+    trims = λ y edited. edited_trims g head y edit takes edited;
     leads = λ y edited. record { is_head = edited_head edit y edited; low = one.low; high = one.high; file = file y edited; undamaged = prime.tidy.undamaged; unused = names };
   }
 
@@ -119,17 +121,17 @@ module _ (g : Geometry) (a b : List ℕ) (id h : ℕ) (head : List ℕ) (f : Fil
 
   pub says : (edit : Edit) → AddsNone edit id (size_of head) (table_of g b) → CanSay g b id h edit head (edited_file edit f)
   says (Name name) none =
-      leads_to (Name name) (edited_file (Name name) f)
+      leads_to (Name name) (edited_file (Name name) f) tt
       (λ y edited. (renamed-leads g (own (live_at g b) id) id head y name.now f prime.file (same_spans g head y (Name name) edited refl) edited.name).0
       ∙ ap (λ (x : File). Ok x) (fields_are (slice_index y 12) name.now (slice_range y 45 (45 + g.meta)) f.meta f.bytes (edited.kind ∙ kind_is) (edited.meta ∙ meta_is) (edited_file (Name name) f) refl))
       none
   says (Meta meta) none =
-      leads_to (Meta meta) (edited_file (Meta meta) f)
+      leads_to (Meta meta) (edited_file (Meta meta) f) tt
       (λ y edited. (renamed-leads g (own (live_at g b) id) id head y f.name f prime.file (same_spans g head y (Meta meta) edited refl) (edited.name ∙ named)).0
       ∙ ap (λ (x : File). Ok x) (fields_are (slice_index y 12) f.name (slice_range y 45 (45 + g.meta)) meta.now f.bytes (edited.kind ∙ kind_is) edited.meta (edited_file (Meta meta) f) refl))
       unused
   says (Cut size) none =
-      leads_to (Cut size) (edited_file (Cut size) f)
+      leads_to (Cut size) (edited_file (Cut size) f) tt
       (λ y edited.
       let now : size_of y ≡ size = edited.size in
       (truncated-leads g (own (live_at g b) id) id head y f.name f (sizes g).page lengths prime.file (rw now none)
@@ -202,7 +204,7 @@ module _ (g : Geometry) (b : List ℕ) (id : ℕ) (head z bytes : List ℕ) (edi
 
 pub grow-says : (g : Geometry) → GrowSays g
 grow-says g a b id h head z bytes f beside edit prime grows =
-    leads_to g a b id h head f beside prime edit (written (length f.bytes) bytes f)
+    leads_to g a b id h head f beside prime edit (written (length f.bytes) bytes f) grows.takes
     (λ y edited. appended-is_written g (own (live_at g b) id) id head y bytes z f (lengths g a b id h head f beside prime) prime.file
     (appends g b id head z bytes edit grows y edited) (name_stays g b id head z bytes edit grows y edited) edited.kind (meta_stays g b id head z bytes edit grows y edited))
     (unused g a b id h head f beside prime)

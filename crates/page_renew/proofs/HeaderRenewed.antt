@@ -184,7 +184,7 @@ module _ (g : Geometry) (a : List ℕ) (id o to : ℕ) (edit : Edit) (f : File) 
 
   pub renews : Finishes g a a (replacing to o tag work) (renewing_at id o to edit f)
   renews = record {
-    needs = record { put = record { free = can.free; ready = is_ready }; kill = record { live = ap is_some live; byte = has.flags } };
+    needs = record { put = record { free = can.free; ready = is_ready; trim = λ index. can.says.trims new edited }; kill = record { live = ap is_some live; byte = has.flags } };
     cut = cut;
     done = λ c ok h. done c h;
   }

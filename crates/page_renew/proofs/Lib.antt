@@ -7,6 +7,7 @@ pub mod FreeEntries
 pub mod DataBuilding
 pub mod Says
 pub mod Edited
+pub mod Trimmed
 pub mod HeaderRenewed
 pub mod EditsLead
 pub mod Restates

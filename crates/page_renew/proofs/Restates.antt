@@ -18,11 +18,12 @@ use Rattle.header_laws.specs.Heads.{HasHead}
 use Rattle.header_laws.proofs.Telling.{files-have_heads, one-head}
 use Rattle.flash_view.specs.Steps.{Finishes}
 use Rattle.page_renew.specs.declared.edits.Edit.{Edit}
-use Rattle.page_renew.specs.declared.edits.Edit.TheVariants.{Name, Meta}
-use Rattle.page_renew.specs.Edits.{IsEdited}
+use Rattle.page_renew.specs.declared.edits.Edit.TheVariants.{Name, Meta, Cut, Grow, GrowBy}
+use Rattle.page_renew.specs.Edits.{IsEdited, TakesNext}
 use Rattle.page_renew.specs.PageSteps.{StepDone}
 use Rattle.page_renew.specs.Renewals.{EditDone, CanEdit, renewing}
 use Rattle.page_renew.specs.Restated.{restates, restated, CanRestate, restating}
+use Rattle.page_renew.proofs.Trimmed.{edited_trims}
 
 below : (t n : ℕ) → t < n → nat_lt t (min n n) ≡ true
 below t n less = lt-ltb t (min n n) (omega (arith, less))
@@ -51,6 +52,14 @@ is_restated g head y id (Name name) f kind edited same k m = rw (edited.kind, ed
 is_restated g head y id (Meta meta) f kind edited same k m = rw (edited.kind, edited.meta, sym same, sym k) refl
 is_restated g head y id _ f kind edited same k m = absurd (let no : false ≡ true = kind in cc)
 
+-- such an edit names no further data page
+takes_none : (g : Geometry) (edit : Edit) (size : ℕ) → restates edit ≡ true → TakesNext g edit size
+takes_none g (Name name) size kind = tt
+takes_none g (Meta meta) size kind = tt
+takes_none g (Cut now) size kind = tt
+takes_none g (Grow now) size kind = tt
+takes_none g (GrowBy now page) size kind = absurd (cc)
+
 module _ (g : Geometry) (a : List ℕ) (id : ℕ) (edit : Edit) (f : File) (is : IsImage g a) (can : CanRestate g a id edit f) where
   h : HasHead g a id f
   h = files-have_heads g a is can.tidy id f can.there
@@ -70,7 +79,7 @@ module _ (g : Geometry) (a : List ℕ) (id : ℕ) (edit : Edit) (f : File) (is :
   }
 
   can_edit : CanEdit g a id edit (restated edit f)
-  can_edit = record { tidy = can.tidy; had = can.had; o = h.p; at = h.at; head = h.page; says = record { one = one; leads = leads } }
+  can_edit = record { tidy = can.tidy; had = can.had; o = h.p; at = h.at; head = h.page; says = record { one = one; leads = leads; trims = λ y edited. edited_trims g h.page y edit (takes_none g edit (size_of h.page) can.kind) edited } }
 
   done : (b : List ℕ) → EditDone g id edit (restated edit f) a b → StepDone g (put_file (restated edit f) (table_of g a)) a b
   done b w =

@@ -16,7 +16,7 @@ use Rattle.renew_laws.specs.Primed.{Primed}
 use Rattle.renew_laws.specs.Truncate.{is_past}
 use Rattle.page_renew.specs.declared.edits.Edit.{Edit}
 use Rattle.page_renew.specs.declared.edits.Edit.TheVariants.{Name, Meta, Cut, Grow, GrowBy}
-use Rattle.page_renew.specs.Edits.{edited_size, IsEdited}
+use Rattle.page_renew.specs.Edits.{edited_size, IsEdited, TakesNext}
 use Rattle.page_renew.specs.Renewals.{CanSay, EditDone}
 
 -- the file after an edit that adds no bytes
@@ -64,6 +64,7 @@ CutLeaves g = (a c : List ℕ) (id h : ℕ) (head : List ℕ) (f f' : File) (siz
 -- An edit adds these bytes: they stand behind the old size in data page z, to which the edited header page leads.
 pub record Grows (g : Geometry) (b : List ℕ) (id : ℕ) (head z bytes : List ℕ) (edit : Edit) : Type 0 where
   pub adds : Adds edit
+  pub takes : TakesNext g edit (size_of head)
   pub size : edited_size edit (size_of head) ≡ size_of head + length bytes
   pub some : 0 < length bytes
   pub fits : size_of head % body g + length bytes ≤ body g

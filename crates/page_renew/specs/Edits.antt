@@ -94,6 +94,11 @@ IsEditable g (Cut size) = size < 0xFFFFFFFF
 IsEditable g (Grow size) = size < 0xFFFFFFFF
 IsEditable g (GrowBy size page) = size < 0xFFFFFFFF
 
+-- An edit that names the data page of the span behind the last gives the file one data page more.
+abbrev pub TakesNext : Geometry → Edit → (size : ℕ) → Type 0
+TakesNext g (GrowBy now page) size = data_pages g size < data_pages g now
+TakesNext g _ size = Unit {0}
+
 -- In the new bytes the entry of a span names a data page, where a header page has it.
 abbrev pub IsNamed : Geometry → (span page : ℕ) → (old new : List ℕ) → Type 0
 IsNamed g span page old new = (head_slots g ≤ span → new ≡ old) × (span < head_slots g → (word_at new (45 + g.meta + 2 * span) ≡ page) × SameOutside (45 + g.meta + 2 * span) 2 old new)

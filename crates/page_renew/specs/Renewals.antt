@@ -20,6 +20,7 @@ use Rattle.renew_laws.specs.Idles.{Idles}
 use Rattle.renew_laws.specs.Renew.{RenewsTo}
 use Rattle.renew_laws.specs.Replace.{ReplaceCut, Replaced}
 use Rattle.renew_laws.specs.Reserve.{CanTake}
+use Rattle.trim_laws.specs.Trim.{IsTrimmed}
 use Rattle.flash_view.specs.declared.kinds.Kind.TheVariants.{Index}
 use Rattle.flash_view.specs.Steps.{Step}
 use Rattle.page_put.specs.LivePages.{IsPuttable, IsKillable, finished_page}
@@ -51,10 +52,11 @@ replacing to o tag built = record {
 
 -- ---- a header page that is renewed
 
--- Page o is the one header page of an id, and each page that is it with the edit done leads to file f.
+-- Page o is the one header page of an id, and each page that is it with the edit done leads to file f, and names no page behind its last one.
 pub record CanSay (g : Geometry) (image : List ℕ) (id o : ℕ) (edit : Edit) (head : List ℕ) (f : File) : Type 0 where
   pub one : HasOneHead g image id o head
   pub leads : (y : List ℕ) → IsEdited g head edit y → LeadsTo g image id y f
+  pub trims : (y : List ℕ) → IsEdited g head edit y → IsTrimmed g y
 
 -- The image is tidy but for pages of the id that were put beside, and `to` is a free page for the edited header page.
 pub record CanRenew (g : Geometry) (image : List ℕ) (id o to : ℕ) (edit : Edit) (f : File) : Type 0 where

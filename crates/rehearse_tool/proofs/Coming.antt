@@ -15,7 +15,7 @@ use Rattle.tool_parts.proofs.Refusals.{refusal_is}
 use Rattle.rehearse_tool.specs.declared.input.Stop.{Stop}
 use Rattle.rehearse_tool.specs.declared.input.Stop.TheVariants.{Ends, NoMemory}
 use Rattle.rehearse_tool.specs.declared.answer.Answer.{Answer}
-use Rattle.rehearse_tool.specs.Outcomes.{IsJudged, IsStop, IsVerdictOn, IsRefusedBy, ComesTo, stop_status}
+use Rattle.rehearse_tool.specs.Outcomes.{IsJudged, IsStop, IsVerdictOn, IsRefusedBy, MayStop, IsOutcomeStatus, ComesTo, stop_status}
 use Rattle.rehearse_tool.specs.Texts.{verdict_status}
 
 -- the volume of an image, with so many descriptors
@@ -59,27 +59,38 @@ comes_unscripted g image bytes script stop read taken long why =
 later_by : (status n : ℕ) → status ≡ n → (n ≢ 1) × (n ≢ 2) × (n ≢ 10) → IsLaterStatus status
 later_by status n is not = record { no_usage = λ e. not.0 (sym is ∙ e); no_geometry = λ e. not.1 (sym is ∙ e); no_short = λ e. not.2 (sym is ∙ e) }
 
-pub later_unread : {R : Type 0} (stop : Stop) → (stop ≡ NoMemory) ⊎ ((stop ≡ Ends BoardFault) × R) → IsLaterStatus (stop_status stop)
-later_unread stop why = ⊎_elim
-    (λ (none : stop ≡ NoMemory). later_by (stop_status stop) 15 (ap stop_status none) (λ e. omega (arith, e), λ e. omega (arith, e), λ e. omega (arith, e)))
-    (λ fault. later_by (stop_status stop) 7 (ap stop_status fault.0) (λ e. omega (arith, e), λ e. omega (arith, e), λ e. omega (arith, e)))
+-- no memory
+pub among_none : (stop : Stop) → stop ≡ NoMemory → IsOutcomeStatus (stop_status stop)
+among_none stop none = subst (λ (s : Stop). IsOutcomeStatus (stop_status s)) (sym none) (inr (NoMemory, tt {0}, refl))
+
+-- a chip that can't be read, or no memory for it
+pub among_unread : {R : Type 0} (stop : Stop) → (stop ≡ NoMemory) ⊎ ((stop ≡ Ends BoardFault) × R) → IsOutcomeStatus (stop_status stop)
+among_unread stop why = ⊎_elim
+    (λ (none : stop ≡ NoMemory). among_none stop none)
+    (λ fault. subst (λ (s : Stop). IsOutcomeStatus (stop_status s)) (sym fault.0) (inr (Ends BoardFault, tt {0}, refl)))
     why
 
-pub later_unscripted : {R : Type 0} (stop : Stop) → (stop ≡ NoMemory) ⊎ ((stop ≡ Ends TooLong) ⊎ ((stop ≡ Ends SourceFault) × R)) → IsLaterStatus (stop_status stop)
-later_unscripted stop why = ⊎_elim
-    (λ (none : stop ≡ NoMemory). later_by (stop_status stop) 15 (ap stop_status none) (λ e. omega (arith, e), λ e. omega (arith, e), λ e. omega (arith, e)))
+-- a script that is too long or can't be read, or no memory for it
+pub among_unscripted : {R : Type 0} (stop : Stop) → (stop ≡ NoMemory) ⊎ ((stop ≡ Ends TooLong) ⊎ ((stop ≡ Ends SourceFault) × R)) → IsOutcomeStatus (stop_status stop)
+among_unscripted stop why = ⊎_elim
+    (λ (none : stop ≡ NoMemory). among_none stop none)
     (λ more. ⊎_elim
-    (λ (is : stop ≡ Ends TooLong). later_by (stop_status stop) 11 (ap stop_status is) (λ e. omega (arith, e), λ e. omega (arith, e), λ e. omega (arith, e)))
-    (λ fault. later_by (stop_status stop) 8 (ap stop_status fault.0) (λ e. omega (arith, e), λ e. omega (arith, e), λ e. omega (arith, e)))
+    (λ (is : stop ≡ Ends TooLong). subst (λ (s : Stop). IsOutcomeStatus (stop_status s)) (sym is) (inr (Ends TooLong, tt {0}, refl)))
+    (λ fault. subst (λ (s : Stop). IsOutcomeStatus (stop_status s)) (sym fault.0) (inr (Ends SourceFault, tt {0}, refl)))
     more)
     why
 
-pub later_refused : (g : Geometry) (image : List ℕ) (stop : Stop) → IsRefusedBy (check_refusal g image) stop → IsLaterStatus (stop_status stop)
-later_refused g image NoMemory why = later_by 15 15 refl (λ e. omega (arith, e), λ e. omega (arith, e), λ e. omega (arith, e))
-later_refused g image (Ends ending) why = ⊎_elim
-    (λ (e : ending ≡ NotAFs (spoiled_blocks g image)). later_by (status_of ending) 3 (ap status_of e) (λ e. omega (arith, e), λ e. omega (arith, e), λ e. omega (arith, e)))
-    (λ (e : ending ≡ Mixed (shared_blocks g image)). later_by (status_of ending) 4 (ap status_of e) (λ e. omega (arith, e), λ e. omega (arith, e), λ e. omega (arith, e)))
+-- an image that isn't taken, or no memory to tell
+pub among_refused : (g : Geometry) (image : List ℕ) (stop : Stop) → IsRefusedBy (check_refusal g image) stop → IsOutcomeStatus (stop_status stop)
+among_refused g image NoMemory why = inr (NoMemory, tt {0}, refl)
+among_refused g image (Ends ending) why = ⊎_elim
+    (λ (e : ending ≡ NotAFs (spoiled_blocks g image)). inr (Ends (NotAFs (spoiled_blocks g image)), tt {0}, ap status_of e))
+    (λ (e : ending ≡ Mixed (shared_blocks g image)). inr (Ends (Mixed (shared_blocks g image)), tt {0}, ap status_of e))
     (refusal_is g image ending why)
+
+-- a verdict
+pub among_judged : (g : Geometry) (tables : Bool) (s : State) (script text : List ℕ) (status : ℕ) → IsJudged g tables s script text status → IsOutcomeStatus status
+among_judged g tables s script text status judged = inl (judged.told, judged.status_is)
 
 later_told : (told : Told) (status : ℕ) → status ≡ verdict_status told → IsLaterStatus status
 later_told (IsFaulty f) status is = later_by status 5 is (λ e. omega (arith, e), λ e. omega (arith, e), λ e. omega (arith, e))
@@ -87,9 +98,18 @@ later_told (MayBeTight line) status is = later_by status 14 is (λ e. omega (ari
 later_told (AllKept promises tables) status is = later_by status 0 is (λ e. omega (arith, e), λ e. omega (arith, e), λ e. omega (arith, e))
 later_told (NotKept b) status is = later_by status 24 is (λ e. omega (arith, e), λ e. omega (arith, e), λ e. omega (arith, e))
 
--- what is told of a script is later too
-pub later_judged : (g : Geometry) (tables : Bool) (s : State) (script text : List ℕ) (status : ℕ) → IsJudged g tables s script text status → IsLaterStatus status
-later_judged g tables s script text status judged = later_told judged.told status judged.status_is
+later_stop : (stop : Stop) (status : ℕ) → MayStop stop → status ≡ stop_status stop → IsLaterStatus status
+later_stop NoMemory status may is = later_by status 15 is (λ e. omega (arith, e), λ e. omega (arith, e), λ e. omega (arith, e))
+later_stop (Ends (NotAFs spoiled)) status may is = later_by status 3 is (λ e. omega (arith, e), λ e. omega (arith, e), λ e. omega (arith, e))
+later_stop (Ends (Mixed blocks)) status may is = later_by status 4 is (λ e. omega (arith, e), λ e. omega (arith, e), λ e. omega (arith, e))
+later_stop (Ends BoardFault) status may is = later_by status 7 is (λ e. omega (arith, e), λ e. omega (arith, e), λ e. omega (arith, e))
+later_stop (Ends SourceFault) status may is = later_by status 8 is (λ e. omega (arith, e), λ e. omega (arith, e), λ e. omega (arith, e))
+later_stop (Ends TooLong) status may is = later_by status 11 is (λ e. omega (arith, e), λ e. omega (arith, e), λ e. omega (arith, e))
+later_stop (Ends _) status may is = absurd may
+
+-- none of these is told before the chip is read
+pub later_among : (status : ℕ) → IsOutcomeStatus status → IsLaterStatus status
+later_among status among = ⊎_elim (λ verdict. later_told verdict.0 status verdict.1) (λ none. later_stop none.0 status none.1 none.2) among
 
 -- where a status is that of a fault, the fault was one
 pub fault_refused : {R : Type 0} (g : Geometry) (image : List ℕ) (stop : Stop) → IsRefusedBy (check_refusal g image) stop → (stop_status stop ≡ 7) ⊎ (stop_status stop ≡ 8) → R

@@ -27,10 +27,10 @@ use Rattle.image_model.specs.Shared.{shared_blocks}
 use Rattle.rehearse_tool.specs.declared.input.Stop.{Stop}
 use Rattle.rehearse_tool.specs.declared.input.Stop.TheVariants.{Ends, NoMemory}
 use Rattle.rehearse_tool.specs.declared.answer.Answer.{Answer}
-use Rattle.rehearse_tool.specs.Outcomes.{IsStop, IsVerdictOn, IsStopOn, ComesTo, stop_status, outcome_text, outcome_status}
+use Rattle.rehearse_tool.specs.Outcomes.{IsStop, IsVerdictOn, IsStopOn, IsOutcomeStatus, ComesTo, stop_status, outcome_text, outcome_status}
 use Rattle.rehearse_tool.specs.Rehearsing.{EachRunKeeps, IsKept, HasBroken, DoesRehearse}
 use Rattle.rehearse_tool.specs.Texts.{verdict_status, rehearsal_text}
-use Rattle.rehearse_tool.proofs.Coming.{volume_with}
+use Rattle.rehearse_tool.proofs.Coming.{volume_with, later_among}
 
 -- ---- the status
 
@@ -116,8 +116,8 @@ module _ {D X : Type 0} (nor : NorOf D) (source : SourceOf X) (g : Geometry) (le
       → IsKept g tables (volume_of g lent (nor.bytes old)) (source.left script) (outcome_text outcome)
   kept_so comes tells told is = kept_of g (volume_of g lent (nor.bytes old)) (source.left script) tables (nor.bytes old) outcome (comes tells told) (wanted_is nor old new (outcome_status outcome) status 0 ends_so is (λ e. omega (arith, e)))
 
-  pub does_rehearse : (source.tells script → nor.tells old → ComesTo g tables (volume_of g lent (nor.bytes old)) (nor.bytes old) (source.left script) outcome) → DoesRehearse nor source g lent tables old new script after status
-  does_rehearse comes = record {
+  pub does_rehearse : IsOutcomeStatus (outcome_status outcome) → (source.tells script → nor.tells old → ComesTo g tables (volume_of g lent (nor.bytes old)) (nor.bytes old) (source.left script) outcome) → DoesRehearse nor source g lent tables old new script after status
+  does_rehearse among comes = record {
     text = outcome_text outcome;
     wanted = outcome_status outcome;
     says = says_after reads (says_one closes.says closes.cuts);
@@ -127,15 +127,16 @@ module _ {D X : Type 0} (nor : NorOf D) (source : SourceOf X) (g : Geometry) (le
       whole = λ not. closes.whole (reads.told told) not ∙ ap (λ (l : List ℕ). l ++ outcome_text outcome) reads.said;
       front = front_after reads (front_one closes.says);
     };
+    among = among;
     why = λ tells told. why_of g (volume_of g lent (nor.bytes old)) (source.left script) tables (nor.bytes old) outcome (comes tells told);
     kept = λ tells told is. kept_so comes tells told is;
     runs = λ tells told is. each_run_keeps nor source g lent (nor.bytes old) (source.left script) (kept_so comes tells told is).good;
     broken = λ tells told is. broken_of g (volume_of g lent (nor.bytes old)) (source.left script) tables (nor.bytes old) outcome (comes tells told) (wanted_is nor old new (outcome_status outcome) status 24 ends_so is (λ e. omega (arith, e)));
   }
 
-  pub later_closed : IsLaterStatus (outcome_status outcome) → IsLaterStatus status
-  later_closed later = ⊎_elim
-      (λ (e : status ≡ outcome_status outcome). subst IsLaterStatus (sym e) later)
+  pub later_closed : IsOutcomeStatus (outcome_status outcome) → IsLaterStatus status
+  later_closed among = ⊎_elim
+      (λ (e : status ≡ outcome_status outcome). subst IsLaterStatus (sym e) (later_among (outcome_status outcome) among))
       (λ (r : (status ≡ 7) × Rose (nor.faults mid) (nor.faults new)). record { no_usage = λ e. omega (arith, e, r.0); no_geometry = λ e. omega (arith, e, r.0); no_short = λ e. omega (arith, e, r.0) })
       closes.ends
 

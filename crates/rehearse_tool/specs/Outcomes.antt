@@ -5,7 +5,7 @@ use Rattle.table_model.specs.Table.{State}
 use Rattle.promise_model.specs.Laws.{places_of}
 use Rattle.promise_model.specs.Verdicts.{Told, Tells}
 use Rattle.tool_parts.specs.declared.ending.Ending.{Ending}
-use Rattle.tool_parts.specs.declared.ending.Ending.TheVariants.{BoardFault, SourceFault, TooLong}
+use Rattle.tool_parts.specs.declared.ending.Ending.TheVariants.{NotAFs, Mixed, BoardFault, SourceFault, TooLong}
 use Rattle.tool_parts.specs.Closing.{status_of, closing_line_of}
 use Rattle.tool_parts.specs.Refusals.{check_refusal}
 use Rattle.rehearse_tool.specs.declared.input.Stop.{Stop}
@@ -61,6 +61,20 @@ pub record IsStopOn (g : Geometry) (image script text : List ℕ) (status : ℕ)
 abbrev pub IsRefusedBy : Option Ending → Stop → Type 0
 IsRefusedBy refusal (Ends ending) = refusal ≡ Some ending
 IsRefusedBy refusal NoMemory = Unit {0}
+
+-- why there may be none at all, whatever board and script tell
+abbrev pub MayStop : Stop → Type 0
+MayStop NoMemory = Unit {0}
+MayStop (Ends (NotAFs spoiled)) = Unit {0}
+MayStop (Ends (Mixed blocks)) = Unit {0}
+MayStop (Ends BoardFault) = Unit {0}
+MayStop (Ends SourceFault) = Unit {0}
+MayStop (Ends TooLong) = Unit {0}
+MayStop (Ends _) = ⊥
+
+-- the status of a verdict, or that of such a stop
+abbrev pub IsOutcomeStatus : ℕ → Type 0
+IsOutcomeStatus status = ((told : Told) × (status ≡ verdict_status told)) ⊎ ((stop : Stop) × MayStop stop × (status ≡ stop_status stop))
 
 -- what a rehearsal on that image comes to
 abbrev pub ComesTo : Geometry → Bool → State → (image script : List ℕ) → Result Answer Stop → Type 0

@@ -13,7 +13,7 @@ use Rattle.tool_parts.specs.declared.buffers.Lengths.{Lengths}
 use Rattle.tool_parts.specs.Endings.{EndsWith, SaysWhole}
 use Rattle.tool_parts.specs.Asked.{Asked}
 use Rattle.script_run.specs.Running.{DoesRun}
-use Rattle.rehearse_tool.specs.Outcomes.{IsVerdictOn, IsStopOn}
+use Rattle.rehearse_tool.specs.Outcomes.{IsVerdictOn, IsStopOn, IsOutcomeStatus}
 use Rattle.rehearse_tool.specs.Texts.{rehearsal_text}
 use Rattle.rehearse_tool.specs.Words.{wants_tables, IsPlanned}
 
@@ -43,6 +43,8 @@ pub record DoesRehearse {D X : Type 0} (nor : NorOf D) (source : SourceOf X) (g 
   pub says : OnlySays nor old new text
   pub ends : EndsWith nor old new wanted status
   pub told : nor.tells old → SaysWhole nor old new text wanted status
+  -- whatever board and script tell, it is the status of a verdict, or one of few others
+  pub among : IsOutcomeStatus wanted
   -- the verdict on the script, on the table of the chip's bytes, or why there is none
   pub why : source.tells script → nor.tells old → IsVerdictOn g tables (volume_of g lent (nor.bytes old)) (nor.bytes old) (source.left script) text wanted ⊎ IsStopOn g (nor.bytes old) (source.left script) text wanted
   -- with status 0 the promises are kept at each place ..

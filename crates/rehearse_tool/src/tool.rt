@@ -10,7 +10,7 @@ ghost use Rattle.tool_parts.specs.Fits.{IsFitting};
 ghost use Rattle.tool_parts.specs.Later.{IsLaterStatus};
 ghost use Rattle.tool_parts.specs.Lent.{lengths_of, asked_of};
 ghost use Rattle.tool_parts.specs.Refusals.{check_refusal};
-ghost use Rattle.rehearse_tool.specs.Outcomes.{IsJudged, IsRefusedBy, ComesTo, outcome_text, outcome_status};
+ghost use Rattle.rehearse_tool.specs.Outcomes.{IsJudged, IsRefusedBy, IsOutcomeStatus, ComesTo, outcome_text, outcome_status};
 ghost use Rattle.rehearse_tool.specs.Rehearsing.{DoesRehearse, Rehearses};
 ghost use Rattle.rehearse_tool.specs.Words.{refusal_of};
 
@@ -62,7 +62,7 @@ fn answer_on(
 }
 
 // Reads the chip and the script, and rehearses it.
-#[tactic(auto, using(crate::proofs::Coming::comes_ok, crate::proofs::Coming::comes_refused, crate::proofs::Coming::comes_unread, crate::proofs::Coming::comes_unscripted, crate::proofs::Coming::later_unread, crate::proofs::Coming::later_unscripted, crate::proofs::Coming::later_refused, crate::proofs::Coming::later_judged, crate::proofs::Coming::fault_unread, crate::proofs::Coming::fault_unscripted))]
+#[tactic(auto, using(crate::proofs::Coming::comes_ok, crate::proofs::Coming::comes_refused, crate::proofs::Coming::comes_unread, crate::proofs::Coming::comes_unscripted, crate::proofs::Coming::among_none, crate::proofs::Coming::among_unread, crate::proofs::Coming::among_unscripted, crate::proofs::Coming::among_refused, crate::proofs::Coming::among_judged, crate::proofs::Coming::fault_unread, crate::proofs::Coming::fault_unscripted))]
 fn perform<B: Board, S: Source>(
     alloc: Global,
     g: Geometry,
@@ -74,7 +74,7 @@ fn perform<B: Board, S: Source>(
     requires { IsFitting g (B.unit board.old) (B.size board.old) }
     ensures only { OnlyReads B.NorState board.old board.new }
     ensures comes { S.tells script.old → B.tells board.old → ComesTo g tables (record { table = the_table g (B.bytes board.old); slots = replicate slots None }) (B.bytes board.old) (S.left script.old) result }
-    ensures later { IsLaterStatus (outcome_status result) }
+    ensures among { IsOutcomeStatus (outcome_status result) }
     ensures board_fault { outcome_status result ≡ 7 → Rose (B.faults board.old) (B.faults board.new) }
     ensures script_fault { outcome_status result ≡ 8 → Rose (S.faults script.old) (S.faults script.new) }
     ensures script_faults { S.faults script.old ≤ S.faults script.new }

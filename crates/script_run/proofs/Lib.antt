@@ -3,6 +3,7 @@ pub mod LineWork
 pub mod OneLine
 pub mod Turning
 pub mod Arriving
+pub mod Among
 pub mod Settling
 pub mod Beginning
 pub mod Standing

@@ -1,3 +1,4 @@
+pub mod Among
 pub mod Runs
 pub mod Settling
 pub mod Turns

@@ -7,6 +7,7 @@ ghost use Rattle.file_calls.specs.Replies.{shown_by};
 ghost use Rattle.volume.specs.Stages.{takes_calls};
 ghost use Rattle.volume.specs.Same.{IsSameVolume};
 ghost use Rattle.tool_parts.specs.Later.{IsLater};
+ghost use Rattle.script_run.specs.Among.{MayEndRun};
 ghost use Rattle.script_run.specs.Runs.{Ran, result_err};
 ghost use Rattle.script_run.specs.Turns.{DoesCall};
 
@@ -29,6 +30,7 @@ pub(crate) fn apply<B: Board>(
     requires counted { IsCounted (Asks (asked call.now)) }
     requires room { 4096 ≤ length lent.old }
     ensures later { IfErr result IsLater }
+    ensures among { IfErr result MayEndRun }
     ensures ran { Ran B.NorState volume.old.nor.now volume.new.nor.now (result_err result) (takes_calls volume.new) }
     ensures no_script { ¬ (result ≡ Err Ending.SourceFault) }
     ensures same { IsSameVolume volume.old volume.new }

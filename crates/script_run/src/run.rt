@@ -6,10 +6,12 @@ ghost use Rattle.flash_view.specs.Same.{StaysBehind};
 ghost use Rattle.volume.specs.Holds.{memory};
 ghost use Rattle.volume.specs.Stages.{takes_calls};
 ghost use Rattle.volume.specs.Same.{IsSameVolume};
+ghost use Rattle.tool_parts.specs.Among.{EndsAmong};
 ghost use Rattle.tool_parts.specs.Begins.{closed_memory, first_moment};
 ghost use Rattle.tool_parts.specs.Fits.{IsFitting, HasLengths};
 ghost use Rattle.tool_parts.specs.Later.{IsLater, IsLaterStatus};
 ghost use Rattle.tool_parts.specs.Lent.{lengths_of};
+ghost use Rattle.script_run.specs.Among.{MayEndRun};
 ghost use Rattle.script_run.specs.Outcomes.{RunsTo, Refused, EndsByImages};
 ghost use Rattle.tool_parts.specs.Reads.{ReadsOnce};
 ghost use Rattle.tool_parts.specs.Refusals.{check_refusal};
@@ -43,6 +45,7 @@ fn settled_ending(ending: Ending, last: Result<(), FsErr>) -> Ending
 fn settle<B: Board>(volume: &mut Volume<'_, B>, ending: Ending) -> Ending
     requires { StandsBy (Some ending) (takes_calls volume.old) }
     ensures later { IsLater ending → IsLater result }
+    ensures among { MayEndRun ending → MayEndRun result }
     ensures no_script { result ≡ Ending.SourceFault → ending ≡ Ending.SourceFault }
     ensures cause { result ≡ Ending.BoardFault → (ending ≡ Ending.BoardFault) ⊎ Rose (B.faults volume.old.nor.now) (B.faults volume.new.nor.now) }
     ensures same { IsSameVolume volume.old volume.new }
@@ -64,6 +67,7 @@ fn run_volume<B: Board, S: Source>(
     requires writable { write_refusal volume.old.geometry ≡ None }
     requires room { 12288 ≤ length line.old }
     ensures later { IsLater result }
+    ensures among { MayEndRun result }
     ensures faults { B.faults volume.old.nor.now ≤ B.faults volume.new.nor.now }
     ensures cause { result ≡ Ending.BoardFault → Rose (B.faults volume.old.nor.now) (B.faults volume.new.nor.now) }
     ensures same { IsSameVolume volume.old volume.new }
@@ -97,6 +101,7 @@ fn run<'b, B: Board, S: Source>(
     requires check { check_need g ≤ length lent.check.now }
     requires line { 12288 ≤ length line.old }
     ensures later { IsLater result }
+    ensures among { MayEndRun result }
     ensures script_faults { S.faults script.old ≤ S.faults script.new }
     ensures script_cause { result ≡ Ending.SourceFault → Rose (S.faults script.old) (S.faults script.new) }
     ensures board_faults { B.faults board.old ≤ B.faults board.new }
@@ -124,6 +129,7 @@ pub fn run_on<B: Board, S: Source>(
     ensures board_fault { result ≡ 7 → Rose (B.faults board.old) (B.faults board.new) }
     ensures script_fault { result ≡ 8 → Rose (S.faults script.old) (S.faults script.new) }
     ensures no_folder { result ≢ 9 }
+    ensures ends { EndsAmong B.NorState MayEndRun board.old board.new result }
     ensures does { DoesRun B.NorState S.Source g (lengths_of bufs.old) board.old board.new script.old script.new result }
 {
     let lent = Lent {

@@ -12,6 +12,7 @@ ghost use Rattle.volume.specs.Holds.{memory};
 ghost use Rattle.volume.specs.Stages.{takes_calls};
 ghost use Rattle.volume.specs.Same.{IsSameVolume};
 ghost use Rattle.tool_parts.specs.Later.{IsLater, IsLaterIf};
+ghost use Rattle.script_run.specs.Among.{MayEndRun};
 ghost use Rattle.script_run.specs.Runs.{Ran, Works};
 ghost use Rattle.script_run.specs.Turns.{DidLine, OneMore, Turns, at_run};
 ghost use Rattle.script_run.specs.Outcomes.{RunEnds};
@@ -40,6 +41,7 @@ fn answer<B: Board>(
     requires lent { 4096 ≤ length lent.old }
     requires stands { takes_calls volume.old ≡ true }
     ensures later { IsLaterIf result }
+    ensures among { IfSome result MayEndRun }
     ensures ran { Ran B.NorState volume.old.nor.now volume.new.nor.now result (takes_calls volume.new) }
     ensures same { IsSameVolume volume.old volume.new }
     ensures no_script { ¬ (result ≡ Some Ending.SourceFault) }
@@ -68,6 +70,7 @@ fn say_reply<B: Board>(
     requires stands { takes_calls volume.old ≡ true }
     requires short { IsShort reply.now }
     ensures later { IsLaterIf result }
+    ensures among { IfSome result MayEndRun }
     ensures ran { Ran B.NorState volume.old.nor.now volume.new.nor.now result (takes_calls volume.new) }
     ensures same { IsSameVolume volume.old volume.new }
     ensures no_script { ¬ (result ≡ Some Ending.SourceFault) }
@@ -112,6 +115,7 @@ fn last_line<B: Board>(
     requires stands { takes_calls volume.old ≡ true }
     requires no_break { NoBreak (slice_range lines.now.buf.now lines.now.start lines.now.end) }
     ensures later { IsLater result }
+    ensures among { MayEndRun result }
     ensures ran { Ran B.NorState volume.old.nor.now volume.new.nor.now (Some result) (takes_calls volume.new) }
     ensures same { IsSameVolume volume.old volume.new }
     ensures no_script { ¬ (result ≡ Ending.SourceFault) }
@@ -145,6 +149,7 @@ fn take_more<B: Board, S: Source>(
     requires stands { takes_calls volume.old ≡ true }
     requires no_break { NoBreak (slice_range lines.old.buf.now lines.old.start lines.old.end) }
     ensures later { IsLaterIf result }
+    ensures among { IfSome result MayEndRun }
     ensures ran { Ran B.NorState volume.old.nor.now volume.new.nor.now result (takes_calls volume.new) }
     ensures same { IsSameVolume volume.old volume.new }
     ensures script_faults { S.faults script.old ≤ S.faults script.new }
@@ -187,6 +192,7 @@ fn turn<B: Board, S: Source>(
     requires lent { 4096 ≤ length lent.old }
     requires stands { takes_calls volume.old ≡ true }
     ensures later { IsLaterIf result }
+    ensures among { IfSome result MayEndRun }
     ensures ran { Ran B.NorState volume.old.nor.now volume.new.nor.now result (takes_calls volume.new) }
     ensures same { IsSameVolume volume.old volume.new }
     ensures script_faults { S.faults script.old ≤ S.faults script.new }
@@ -222,6 +228,7 @@ fn run_lines<B: Board, S: Source>(
     requires lent { 4096 ≤ length lent.old }
     requires stands { takes_calls volume.old ≡ true }
     ensures later { IsLater result }
+    ensures among { MayEndRun result }
     ensures ran { Ran B.NorState volume.old.nor.now volume.new.nor.now (Some result) (takes_calls volume.new) }
     ensures same { IsSameVolume volume.old volume.new }
     ensures script_faults { S.faults script.old ≤ S.faults script.new }
@@ -248,6 +255,7 @@ pub(crate) fn run_script<B: Board, S: Source>(
     requires room { 12288 ≤ length line.old }
     requires stands { takes_calls volume.old ≡ true }
     ensures later { IsLater result }
+    ensures among { MayEndRun result }
     ensures ran { Ran B.NorState volume.old.nor.now volume.new.nor.now (Some result) (takes_calls volume.new) }
     ensures same { IsSameVolume volume.old volume.new }
     ensures script_faults { S.faults script.old ≤ S.faults script.new }

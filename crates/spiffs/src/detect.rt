@@ -11,12 +11,10 @@ use std::io::Write;
 use volume_detect::words_need;
 use volume_rank::Found;
 
-/// Bytes of work, of copies of pages and of marks that are lent: enough for every volume.
-const WORK: usize = 1_048_576;
+/// Bytes of work and of marks that are lent: enough for every volume.
+const WORK: usize = 557_056;
 
-const CACHE: usize = 1_048_576;
-
-const CHECK: usize = 73_727;
+const CHECK: usize = 65_535;
 
 /// The memory that is lent to `detect_tool`.
 #[derive(Drop)]
@@ -24,7 +22,6 @@ struct Memory {
     chip: Vec<u8>,
     words: Vec<u8>,
     work: Vec<u8>,
-    cache: Vec<u8>,
     check: Vec<u8>,
     found: Vec<Found>,
 }
@@ -39,7 +36,6 @@ impl Memory {
             chip: vec![in alloc; 0u8; size as usize]?,
             words: vec![in alloc; 0u8; words_need(size) as usize]?,
             work: vec![in alloc; 0u8; WORK]?,
-            cache: vec![in alloc; 0u8; CACHE]?,
             check: vec![in alloc; 0u8; CHECK]?,
             found: vec![in alloc; place; found_need(size) as usize]?,
         })
@@ -97,7 +93,6 @@ pub fn detect_on<W: Write + Drop>(
         chip: &mut memory.chip,
         words: &mut memory.words,
         work: &mut memory.work,
-        cache: &mut memory.cache,
         check: &mut memory.check,
         found: &mut memory.found,
     };

@@ -8,6 +8,8 @@ use Rattle.nor_core.specs.declared.state.NorState.{Ghosts as NorOf}
 use Rattle.nor_core.specs.Count.{Rose}
 use Rattle.nor_core.specs.Device.{Changes, Says}
 use Rattle.nor_core.proofs.Cuts.{wider, unchanged}
+use Rattle.trim_laws.specs.Trim.{IsTrim}
+use Rattle.trim_laws.proofs.Empty.{empty_trims}
 use Rattle.flash_view.specs.Same.{StaysBehind}
 use Rattle.table_model.specs.Table.{File, State}
 use Rattle.table_model.specs.declared.error.FsErr.{FsErr}
@@ -55,6 +57,7 @@ module _ {N : Type 0} {nor : NorOf N} {old new : Volume N nor} {last : Result (U
           tidy = whole.1.tidy;
           reserve = whole.1.holds.reserve stands.reserve;
           table = whole.1.table ∙ ap (λ (t : State). t.table) ready.state_is;
+          trim = (takes ready.takes).settles.trims.now stands.stands.tells ready.moment stands.stands.image (subst (λ (h : Geometry). IsTrim h (nor.bytes old.nor.now)) (sym ready.geometry) ready.trim);
         }),
       ))
       (λ fault. inr fault)
@@ -70,7 +73,7 @@ module _ {N : Type 0} {nor : NorOf N} {old new : Volume N nor} {last : Result (U
 
 -- an empty volume has no files
 pub holds_none : (g : Geometry) (was now : List ℕ) → IsFormatted g was now → HoldsFiles g now []
-holds_none g was now f = record { tidy = f.tidy; reserve = f.reserve; table = f.table }
+holds_none g was now f = record { tidy = f.tidy; reserve = f.reserve; table = f.table; trim = empty_trims g now f.tidy f.table }
 
 -- a command that went on from it
 pub was_formatted : {D : Type 0} {nor : NorOf D} {g : Geometry} {old empty last new : D} {line : List ℕ} {wanted status : ℕ} → IsFormatted g (nor.bytes old) (nor.bytes empty) → StaysBehind nor g empty last → ClosesWith nor last new line wanted status → WasFormatted nor g old new

@@ -14,6 +14,7 @@ use Rattle.table_model.specs.Window.{settled_at}
 use Rattle.image_model.specs.Tables.{table_of}
 use Rattle.image_model.specs.Tidy.{IsTidy}
 use Rattle.room_laws.proofs.Totals.{ceil-le}
+use Rattle.trim_laws.proofs.Empty.{empty_trims}
 use Rattle.call_model.specs.Memory.{Memory}
 use Rattle.run_model.specs.Ran.{RunStands}
 use Rattle.vol_check.specs.declared.report.Report.{Report}
@@ -85,6 +86,11 @@ empty_state : (g : Geometry) (slots : ℕ) (image : List ℕ) → table_of g ima
 unfolding settled_at
 empty_state g slots image none = ap (λ (files : List File). record { table = files; slots = replicate (min 65535 slots) None }) none
 
+-- and its image has none
+empty_table : {D : Type 0} {nor : NorOf D} {g : Geometry} {old mid : D} {w : Memory} (slots : ℕ) (report : Report) → w ≡ closed_memory (min 65535 slots) → HoldsFiles g (nor.bytes old) [] → Changes nor old mid (Checks g) → nor.tells old → Reported g (nor.bytes old) (nor.bytes mid) report → table_of g (nor.bytes mid) ≡ []
+unfolding settled_at
+empty_table {w = w} slots report closed files changes tells reported = (empty_stands {w = w} slots report closed files changes tells reported).stands.image.table ∙ files.table
+
 -- a checked volume without files takes calls there
 pub empty_ready : {N : Type 0} {nor : NorOf N} (old new : Volume N nor) (g : Geometry) (slots : ℕ) (report : Report) → new.geometry ≡ g → takes_calls new ≡ true → write_refusal g ≡ None → memory new ≡ closed_memory (min 65535 slots) → HoldsFiles g (nor.bytes old.nor.now) [] →
     Changes nor old.nor.now new.nor.now (Checks g) → nor.tells old.nor.now → Reported g (nor.bytes old.nor.now) (nor.bytes new.nor.now) report → IsReady g new (empty slots)
@@ -95,4 +101,5 @@ empty_ready {N} {nor} old new g slots report same takes writable closed files ch
   stands = empty_stands slots report closed files changes tells reported;
   room = first_room g (min 65535 slots) (nor.bytes old.nor.now) (subst (λ (l : List File). has_room g l ≡ true) (sym files.table) (empty_room g writable));
   state_is = empty_state g slots (nor.bytes old.nor.now) files.table;
+  trim = empty_trims g (nor.bytes new.nor.now) (reported.done.tidy) (empty_table slots report closed files changes tells reported);
 }

@@ -12,12 +12,14 @@ use Rattle.vol_mount.specs.Formatted.{IsFormatted}
 use Rattle.tool_parts.specs.declared.ending.Ending.{Ending}
 use Rattle.tool_parts.specs.declared.ending.Ending.TheVariants.{Done, BoardFault, Tight, Differ}
 use Rattle.tool_parts.specs.Endings.{Speaks}
+use Rattle.trim_laws.specs.Trim.{IsTrim}
 
--- a tidy image with its reserve has these files
+-- a tidy image with its reserve has these files, and names no page behind the last one of a file
 pub record HoldsFiles (g : Geometry) (image : List ℕ) (files : List File) : Type 0 where
   pub tidy : IsTidy g image
   pub reserve : HasReserve g image
   pub table : table_of g image ≡ files
+  pub trim : IsTrim g image
 
 -- At a moment of the command the device held an empty volume, each byte as a format leaves it; what it holds in the end came of that.
 pub record WasFormatted {D : Type 0} (nor : NorOf D) (g : Geometry) (old new : D) : Type 0 where

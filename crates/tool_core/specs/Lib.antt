@@ -1,6 +1,7 @@
 pub mod Words
 pub mod Plan
 pub mod Planned
+pub mod Among
 pub mod Listing
 pub mod Checking
 pub mod Extracting

@@ -3,7 +3,9 @@ ghost use Rattle.geometry.specs.Numbers.{write_refusal, work_need, cache_need, c
 ghost use Rattle.nor_core.specs.Count.{Rose};
 ghost use Rattle.flash_view.specs.Same.{StaysBehind};
 ghost use Rattle.volume.specs.Same.{IsSameVolume};
+ghost use Rattle.tool_core.specs.Among.{MayEndReport};
 ghost use Rattle.tool_core.specs.Checking.{ChecksTo, DoesCheck, report_text};
+ghost use Rattle.tool_parts.specs.Among.{EndsAmong};
 ghost use Rattle.tool_parts.specs.Fits.{IsFitting, HasLengths};
 ghost use Rattle.tool_parts.specs.Later.{IsLater, IsLaterStatus};
 ghost use Rattle.tool_parts.specs.Lent.{lengths_of};
@@ -51,6 +53,7 @@ fn check_volume<B: Board>(volume: &mut Volume<'_, B>) -> Ending
     requires { write_refusal volume.old.geometry ≡ None }
     ensures later { IsLater result }
     ensures no_script { result ≢ Ending.SourceFault }
+    ensures among { MayEndReport result }
     ensures cause { result ≡ Ending.BoardFault → Rose (B.faults volume.old.nor.now) (B.faults volume.new.nor.now) }
     ensures same { IsSameVolume volume.old volume.new }
     ensures checks { ChecksTo B.NorState volume.old.geometry volume.old.nor.now volume.new.nor.now result }
@@ -73,6 +76,7 @@ fn check_board<'b, B: Board>(g: Geometry, board: &'b mut B, lent: Lent<'b>) -> E
     requires check { check_need g ≤ length lent.check.now }
     ensures later { IsLater result }
     ensures no_script { result ≢ Ending.SourceFault }
+    ensures among { MayEndReport result }
     ensures cause { result ≡ Ending.BoardFault → Rose (B.faults board.old) (B.faults board.new) }
     ensures checks { ChecksTo B.NorState g board.old board.new result }
     ensures behind { StaysBehind B.NorState g board.old board.new }
@@ -90,6 +94,7 @@ pub(crate) fn check_on<B: Board>(g: Geometry, board: &mut B, bufs: &mut Buffers<
     ensures board_fault { result ≡ 7 → Rose (B.faults board.old) (B.faults board.new) }
     ensures no_script { result ≢ 8 }
     ensures no_folder { result ≢ 9 }
+    ensures ends { EndsAmong B.NorState MayEndReport board.old board.new result }
     ensures does { DoesCheck B.NorState g (length bufs.old.cache.now) board.old board.new result }
 {
     let lent = Lent {

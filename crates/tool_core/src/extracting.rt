@@ -3,7 +3,9 @@ ghost use Rattle.geometry.specs.Numbers.{work_need, cache_need, check_need};
 ghost use Rattle.nor_core.specs.Count.{Rose};
 ghost use Rattle.flash_view.specs.Same.{IsSameView};
 ghost use Rattle.image_tool.specs.Putting.{FolderGoes};
+ghost use Rattle.tool_core.specs.Among.{MayEndExtract};
 ghost use Rattle.tool_core.specs.Extracting.{Extracts, DoesExtract};
+ghost use Rattle.tool_parts.specs.Among.{EndsAmong};
 ghost use Rattle.tool_parts.specs.Fits.{HoldsVolume, HasLengths};
 ghost use Rattle.tool_parts.specs.Later.{IsUnrefused, IsLaterStatus};
 ghost use Rattle.tool_parts.specs.Lent.{lengths_of};
@@ -29,6 +31,7 @@ fn extract_view<B: Board, F: Folder>(
     requires line { 12288 ≤ length line.old }
     ensures later { IsUnrefused result }
     ensures no_script { result ≢ Ending.SourceFault }
+    ensures among { MayEndExtract result }
     ensures cause { result ≡ Ending.BoardFault → Rose (B.faults v.old.nor.now) (B.faults v.new.nor.now) }
     ensures folder_cause { result ≡ Ending.FolderFault → Rose (F.faults folder.old) (F.faults folder.new) }
     ensures same { IsSameView v.old v.new }
@@ -63,6 +66,7 @@ fn extract_board<B: Board, F: Folder>(
     requires line { 12288 ≤ length line.old }
     ensures later { IsUnrefused result }
     ensures no_script { result ≢ Ending.SourceFault }
+    ensures among { MayEndExtract result }
     ensures cause { result ≡ Ending.BoardFault → Rose (B.faults board.old) (B.faults board.new) }
     ensures folder_cause { result ≡ Ending.FolderFault → Rose (F.faults folder.old) (F.faults folder.new) }
     ensures goes { FolderGoes F.FolderState folder.old folder.new }
@@ -86,6 +90,7 @@ pub(crate) fn extract_on<B: Board, F: Folder>(
     ensures board_fault { result ≡ 7 → Rose (B.faults board.old) (B.faults board.new) }
     ensures folder_fault { result ≡ 9 → Rose (F.faults folder.old) (F.faults folder.new) }
     ensures no_script { result ≢ 8 }
+    ensures ends { EndsAmong B.NorState MayEndExtract board.old board.new result }
     ensures does { DoesExtract B.NorState F.FolderState g (length bufs.old.cache.now) board.old board.new folder.old folder.new result }
 {
     let ending = extract_board(

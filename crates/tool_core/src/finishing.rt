@@ -6,6 +6,7 @@ ghost use Rattle.table_model.specs.Table.{State};
 ghost use Rattle.vol_mount.specs.Formatted.{IsFormatted};
 ghost use Rattle.volume.specs.Same.{IsSameVolume};
 ghost use Rattle.volume_run.specs.Ready.{IsReady};
+ghost use Rattle.tool_parts.specs.Among.{MayEndWork};
 ghost use Rattle.tool_parts.specs.Fits.{IsFitting};
 ghost use Rattle.tool_parts.specs.Later.{IsLater};
 ghost use Rattle.tool_core.specs.Filling.{HoldsFiles, SpeaksOf, unsettled_as};
@@ -49,6 +50,7 @@ pub(crate) fn unsettled(why: FsErr) -> Ending
 fn settle<B: Board>(volume: &mut Volume<'_, B>) -> Result<(), Ending>
     ensures later { IfErr result IsLater }
     ensures no_script { ¬ (result ≡ Err Ending.SourceFault) }
+    ensures among { IfErr result MayEndWork }
     ensures cause { result ≡ Err Ending.BoardFault → Rose (B.faults volume.old.nor.now) (B.faults volume.new.nor.now) }
     ensures same { IsSameVolume volume.old volume.new }
     ensures changes { Changes B.NorState volume.old.nor.now volume.new.nor.now (λ was image. Unit {0}) }
@@ -66,6 +68,7 @@ fn settle<B: Board>(volume: &mut Volume<'_, B>) -> Result<(), Ending>
 pub(crate) fn finish<B: Board>(volume: &mut Volume<'_, B>, line: &[u8]) -> Ending
     ensures later { IsLater result }
     ensures no_script { result ≢ Ending.SourceFault }
+    ensures among { MayEndWork result }
     ensures cause { result ≡ Ending.BoardFault → Rose (B.faults volume.old.nor.now) (B.faults volume.new.nor.now) }
     ensures same { IsSameVolume volume.old volume.new }
     ensures speaks { (g : Geometry) (s : State) → IsReady g volume.old s → SpeaksOf B.NorState g volume.old.nor.now volume.new.nor.now line.now s.table result }

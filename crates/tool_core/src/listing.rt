@@ -2,9 +2,11 @@ ghost use Rattle.std.specs.Prelude.{◌≡◌, ◌≢◌, ◌≤◌, length};
 ghost use Rattle.geometry.specs.Numbers.{work_need, cache_need, check_need};
 ghost use Rattle.nor_core.specs.Count.{Rose};
 ghost use Rattle.flash_view.specs.Same.{IsSameView};
+ghost use Rattle.tool_parts.specs.Among.{EndsAmong};
 ghost use Rattle.tool_parts.specs.Fits.{HoldsVolume, HasLengths};
 ghost use Rattle.tool_parts.specs.Later.{IsLater, IsLaterStatus};
 ghost use Rattle.tool_parts.specs.Lent.{lengths_of};
+ghost use Rattle.tool_core.specs.Among.{MayEndList};
 ghost use Rattle.tool_core.specs.Listing.{ListsTo, DoesList};
 ghost use Rattle.tool_parts.specs.Reads.{ReadsOnce};
 ghost use Rattle.tool_parts.specs.Refusals.{said_ending};
@@ -36,6 +38,7 @@ fn list_view<B: Board>(v: &mut View<'_, B>, marks: &mut [u8], line: &mut [u8]) -
     requires line { 12288 ≤ length line.old }
     ensures later { IsLater result }
     ensures no_script { result ≢ Ending.SourceFault }
+    ensures among { MayEndList result }
     ensures cause { result ≡ Ending.BoardFault → Rose (B.faults v.old.nor.now) (B.faults v.new.nor.now) }
     ensures same { IsSameView v.old v.new }
     ensures lists { ListsTo B.NorState v.old.geometry v.old.nor.now v.new.nor.now result }
@@ -65,6 +68,7 @@ fn list_board<B: Board>(
     requires line { 12288 ≤ length line.old }
     ensures later { IsLater result }
     ensures no_script { result ≢ Ending.SourceFault }
+    ensures among { MayEndList result }
     ensures cause { result ≡ Ending.BoardFault → Rose (B.faults board.old) (B.faults board.new) }
     ensures lists { ListsTo B.NorState g board.old board.new result }
     ensures few { ReadsOnce B.NorState g (length cache.old) board.old board.new }
@@ -81,6 +85,7 @@ pub(crate) fn list_on<B: Board>(g: Geometry, board: &mut B, bufs: &mut Buffers<'
     ensures board_fault { result ≡ 7 → Rose (B.faults board.old) (B.faults board.new) }
     ensures no_script { result ≢ 8 }
     ensures no_folder { result ≢ 9 }
+    ensures ends { EndsAmong B.NorState MayEndList board.old board.new result }
     ensures does { DoesList B.NorState g (length bufs.old.cache.now) board.old board.new result }
 {
     let ending = list_board(g, board, bufs.work, bufs.cache, bufs.check, bufs.line);

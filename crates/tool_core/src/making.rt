@@ -8,9 +8,11 @@ ghost use Rattle.volume.specs.Holds.{memory};
 ghost use Rattle.volume.specs.Same.{IsSameVolume};
 ghost use Rattle.volume_make.specs.Making.{made_text};
 ghost use Rattle.tool_core.specs.Filling.{HoldsFiles};
+ghost use Rattle.tool_parts.specs.Among.{EndsAmong};
 ghost use Rattle.tool_parts.specs.Fits.{IsFitting, HasLengths};
 ghost use Rattle.tool_parts.specs.Later.{IsUnrefused, IsLaterStatus};
 ghost use Rattle.tool_parts.specs.Lent.{lengths_of};
+ghost use Rattle.tool_core.specs.Among.{MayEndMake};
 ghost use Rattle.tool_core.specs.Making.{refused_by, StopsMake, MakesTo, DoesMake};
 ghost use Rattle.tool_parts.specs.Begins.{closed_memory};
 
@@ -73,6 +75,7 @@ fn make_volume<B: Board, F: Folder>(
     requires accepted { make_refusal volume.old.geometry (F.entries folder.old) ≡ None }
     ensures later { IsUnrefused result }
     ensures no_script { result ≢ Ending.SourceFault }
+    ensures among { MayEndMake result }
     ensures cause { result ≡ Ending.BoardFault → Rose (B.faults volume.old.nor.now) (B.faults volume.new.nor.now) }
     ensures folder_cause { result ≡ Ending.FolderFault → Rose (F.faults folder.old) (F.faults folder.new) }
     ensures same { IsSameVolume volume.old volume.new }
@@ -108,6 +111,7 @@ fn make_board<'b, B: Board, F: Folder>(
     requires accepted { make_refusal g (F.entries folder.old) ≡ None }
     ensures later { IsUnrefused result }
     ensures no_script { result ≢ Ending.SourceFault }
+    ensures among { MayEndMake result }
     ensures cause { result ≡ Ending.BoardFault → Rose (B.faults board.old) (B.faults board.new) }
     ensures folder_cause { result ≡ Ending.FolderFault → Rose (F.faults folder.old) (F.faults folder.new) }
     ensures kept { Kept F.FolderState folder.old folder.new }
@@ -132,6 +136,7 @@ pub(crate) fn make_on<B: Board, F: Folder>(
     ensures board_fault { result ≡ 7 → Rose (B.faults board.old) (B.faults board.new) }
     ensures folder_fault { result ≡ 9 → Rose (F.faults folder.old) (F.faults folder.new) }
     ensures no_script { result ≢ 8 }
+    ensures ends { EndsAmong B.NorState MayEndMake board.old board.new result }
     ensures does { DoesMake B.NorState F.FolderState g board.old board.new folder.old folder.new result }
 {
     if let Err(ending) = accept_folder(&g, folder) {

@@ -7,11 +7,13 @@ ghost use Rattle.volume.specs.Holds.{memory};
 ghost use Rattle.volume.specs.Stages.{takes_calls};
 ghost use Rattle.volume.specs.Same.{IsSameVolume};
 ghost use Rattle.volume.specs.Mapping.{is_attached};
+ghost use Rattle.tool_parts.specs.Among.{EndsAmong};
 ghost use Rattle.tool_parts.specs.Fits.{IsFitting, HasLengths};
 ghost use Rattle.tool_parts.specs.Later.{IsLater, IsLaterStatus};
 ghost use Rattle.tool_parts.specs.Lent.{lengths_of};
 ghost use Rattle.tool_parts.specs.Begins.{closed_memory};
 ghost use Rattle.tool_parts.specs.Reads.{ReadsOnce};
+ghost use Rattle.tool_core.specs.Among.{MayEndMap};
 ghost use Rattle.tool_core.specs.Mapping.{page_line, unmapped_as, collected_as, AttachesTo, CollectsTo, MapsAgain, TellsPages, SaysSpan, SaysSpans, MapEnds, MapsTo, DoesMap};
 
 use crate::finishing::unsettled;
@@ -63,6 +65,7 @@ fn attach<'b, B: Board>(
     requires free { is_attached volume.old ≡ false }
     ensures later { IfErr result IsLater }
     ensures no_script { ¬ (result ≡ Err Ending.SourceFault) }
+    ensures among { IfErr result MayEndMap }
     ensures cause { result ≡ Err Ending.BoardFault → Rose (B.faults volume.old.nor.now) (B.faults volume.new.nor.now) }
     ensures same { IsSameVolume volume.old volume.new }
     ensures taken { OnOk result (takes_calls volume.new ≡ true) }
@@ -92,6 +95,7 @@ fn collect<B: Board>(volume: &mut Volume<'_, B>) -> Result<(), Ending>
     requires takes { takes_calls volume.old ≡ true }
     ensures later { IfErr result IsLater }
     ensures no_script { ¬ (result ≡ Err Ending.SourceFault) }
+    ensures among { IfErr result MayEndMap }
     ensures cause { result ≡ Err Ending.BoardFault → Rose (B.faults volume.old.nor.now) (B.faults volume.new.nor.now) }
     ensures same { IsSameVolume volume.old volume.new }
     ensures taken { OnOk result (takes_calls volume.new ≡ true) }
@@ -106,6 +110,7 @@ fn remap<B: Board>(volume: &mut Volume<'_, B>, id: u16) -> Result<(), Ending>
     requires takes { takes_calls volume.old ≡ true }
     ensures later { IfErr result IsLater }
     ensures no_script { ¬ (result ≡ Err Ending.SourceFault) }
+    ensures among { IfErr result MayEndMap }
     ensures cause { result ≡ Err Ending.BoardFault → Rose (B.faults volume.old.nor.now) (B.faults volume.new.nor.now) }
     ensures same { IsSameVolume volume.old volume.new }
     ensures maps { (slots : ℕ) → MapsAgain slots id volume.old volume.new result }
@@ -166,6 +171,7 @@ fn map_checked<'b, B: Board>(volume: &mut Volume<'b, B>, id: u16, numbers: &'b m
     requires tidy { B.tells volume.old.nor.now → IsTidy volume.old.geometry (B.bytes volume.old.nor.now) }
     ensures later { IsLater result }
     ensures no_script { result ≢ Ending.SourceFault }
+    ensures among { MayEndMap result }
     ensures cause { result ≡ Ending.BoardFault → Rose (B.faults volume.old.nor.now) (B.faults volume.new.nor.now) }
     ensures same { IsSameVolume volume.old volume.new }
     ensures maps { (slots : ℕ) → memory volume.old ≡ closed_memory slots → MapEnds B.NorState volume.old.geometry id volume.old.nor.now volume.new.nor.now result }
@@ -193,6 +199,7 @@ fn map_volume<'b, B: Board>(volume: &mut Volume<'b, B>, id: u16, numbers: &'b mu
     requires room { length numbers.old ≡ 8192 }
     ensures later { IsLater result }
     ensures no_script { result ≢ Ending.SourceFault }
+    ensures among { MayEndMap result }
     ensures cause { result ≡ Ending.BoardFault → Rose (B.faults volume.old.nor.now) (B.faults volume.new.nor.now) }
     ensures same { IsSameVolume volume.old volume.new }
     ensures maps { (slots : ℕ) → memory volume.old ≡ closed_memory slots → MapsTo B.NorState volume.old.geometry id volume.old.nor.now volume.new.nor.now result }
@@ -218,6 +225,7 @@ fn map_board<'b, B: Board>(
     requires room { length numbers.old ≡ 8192 }
     ensures later { IsLater result }
     ensures no_script { result ≢ Ending.SourceFault }
+    ensures among { MayEndMap result }
     ensures cause { result ≡ Ending.BoardFault → Rose (B.faults board.old) (B.faults board.new) }
     ensures maps { MapsTo B.NorState g id board.old board.new result }
     ensures behind { StaysBehind B.NorState g board.old board.new }
@@ -236,6 +244,7 @@ pub(crate) fn map_on<B: Board>(g: Geometry, id: u16, board: &mut B, bufs: &mut B
     ensures board_fault { result ≡ 7 → Rose (B.faults board.old) (B.faults board.new) }
     ensures no_script { result ≢ 8 }
     ensures no_folder { result ≢ 9 }
+    ensures ends { EndsAmong B.NorState MayEndMap board.old board.new result }
     ensures does { DoesMap B.NorState g (length bufs.old.cache.now) id board.old board.new result }
 {
     let lent = Lent {

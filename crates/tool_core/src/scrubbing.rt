@@ -5,6 +5,7 @@ ghost use Rattle.flash_view.specs.Same.{StaysBehind};
 ghost use Rattle.volume.specs.Holds.{memory};
 ghost use Rattle.volume.specs.Stages.{takes_calls};
 ghost use Rattle.volume.specs.Same.{IsSameVolume};
+ghost use Rattle.tool_parts.specs.Among.{MayEndWork, EndsAmong};
 ghost use Rattle.tool_parts.specs.Fits.{IsFitting, HasLengths};
 ghost use Rattle.tool_parts.specs.Later.{IsLater, IsLaterStatus};
 ghost use Rattle.tool_parts.specs.Lent.{lengths_of};
@@ -50,6 +51,7 @@ fn scrub_turn<B: Board>(volume: &mut Volume<'_, B>, limit: u16) -> Result<bool, 
     requires takes { takes_calls volume.old ≡ true }
     ensures later { IfErr result IsLater }
     ensures no_script { ¬ (result ≡ Err Ending.SourceFault) }
+    ensures among { IfErr result MayEndWork }
     ensures cause { result ≡ Err Ending.BoardFault → Rose (B.faults volume.old.nor.now) (B.faults volume.new.nor.now) }
     ensures taken { OnOk result (takes_calls volume.new ≡ true) }
     ensures same { IsSameVolume volume.old volume.new }
@@ -68,6 +70,7 @@ fn scrub_all<B: Board>(volume: &mut Volume<'_, B>, limit: u16) -> Result<u32, En
     requires takes { takes_calls volume.old ≡ true }
     ensures later { IfErr result IsLater }
     ensures no_script { ¬ (result ≡ Err Ending.SourceFault) }
+    ensures among { IfErr result MayEndWork }
     ensures cause { result ≡ Err Ending.BoardFault → Rose (B.faults volume.old.nor.now) (B.faults volume.new.nor.now) }
     ensures taken { OnOk result (takes_calls volume.new ≡ true) }
     ensures same { IsSameVolume volume.old volume.new }
@@ -92,6 +95,7 @@ fn scrub_and_count<B: Board>(volume: &mut Volume<'_, B>, limit: u16) -> Result<T
     requires takes { takes_calls volume.old ≡ true }
     ensures later { IfErr result IsLater }
     ensures no_script { ¬ (result ≡ Err Ending.SourceFault) }
+    ensures among { IfErr result MayEndWork }
     ensures cause { result ≡ Err Ending.BoardFault → Rose (B.faults volume.old.nor.now) (B.faults volume.new.nor.now) }
     ensures same { IsSameVolume volume.old volume.new }
     ensures makes { (slots : ℕ) → memory volume.old ≡ closed_memory slots → Makes B.NorState volume.old.geometry slots volume.old.nor.now volume.new.nor.now (memory volume.new) result (IsTally volume.old.geometry limit) }
@@ -116,6 +120,7 @@ fn scrub_checked<B: Board>(volume: &mut Volume<'_, B>, limit: u16) -> Ending
     requires takes { takes_calls volume.old ≡ true }
     ensures later { IsLater result }
     ensures no_script { result ≢ Ending.SourceFault }
+    ensures among { MayEndWork result }
     ensures cause { result ≡ Ending.BoardFault → Rose (B.faults volume.old.nor.now) (B.faults volume.new.nor.now) }
     ensures same { IsSameVolume volume.old volume.new }
     ensures scrubs { (slots : ℕ) → memory volume.old ≡ closed_memory slots → ScrubEnds B.NorState volume.old.geometry limit volume.old.nor.now volume.new.nor.now result }
@@ -137,6 +142,7 @@ fn scrub_volume<B: Board>(volume: &mut Volume<'_, B>, limit: u16) -> Ending
     requires limit { (1 ≤ limit) × (limit ≤ 32767) }
     ensures later { IsLater result }
     ensures no_script { result ≢ Ending.SourceFault }
+    ensures among { MayEndWork result }
     ensures cause { result ≡ Ending.BoardFault → Rose (B.faults volume.old.nor.now) (B.faults volume.new.nor.now) }
     ensures same { IsSameVolume volume.old volume.new }
     ensures scrubs { (slots : ℕ) → memory volume.old ≡ closed_memory slots → ScrubsTo B.NorState volume.old.geometry limit volume.old.nor.now volume.new.nor.now result }
@@ -156,6 +162,7 @@ fn scrub_board<'b, B: Board>(g: Geometry, limit: u16, board: &'b mut B, lent: Le
     requires check { check_need g ≤ length lent.check.now }
     ensures later { IsLater result }
     ensures no_script { result ≢ Ending.SourceFault }
+    ensures among { MayEndWork result }
     ensures cause { result ≡ Ending.BoardFault → Rose (B.faults board.old) (B.faults board.new) }
     ensures scrubs { ScrubsTo B.NorState g limit board.old board.new result }
     ensures behind { StaysBehind B.NorState g board.old board.new }
@@ -180,6 +187,7 @@ pub(crate) fn scrub_on<B: Board>(
     ensures board_fault { result ≡ 7 → Rose (B.faults board.old) (B.faults board.new) }
     ensures no_script { result ≢ 8 }
     ensures no_folder { result ≢ 9 }
+    ensures ends { EndsAmong B.NorState MayEndWork board.old board.new result }
     ensures does { DoesScrub B.NorState g (length bufs.old.cache.now) limit board.old board.new result }
 {
     let lent = Lent {

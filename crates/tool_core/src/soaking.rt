@@ -6,6 +6,7 @@ ghost use Rattle.volume.specs.Holds.{memory};
 ghost use Rattle.volume.specs.Same.{IsSameVolume};
 ghost use Rattle.volume_soak.specs.Turns.{summary_text};
 ghost use Rattle.tool_core.specs.Filling.{HoldsFiles};
+ghost use Rattle.tool_parts.specs.Among.{MayEndWork, EndsAmong};
 ghost use Rattle.tool_parts.specs.Fits.{IsFitting, HasLengths};
 ghost use Rattle.tool_parts.specs.Later.{IsLater, IsLaterStatus};
 ghost use Rattle.tool_parts.specs.Lent.{lengths_of};
@@ -48,6 +49,7 @@ fn soak_volume<B: Board>(
     requires room { 12288 ≤ length line.old }
     ensures later { IsLater result }
     ensures no_script { result ≢ Ending.SourceFault }
+    ensures among { MayEndWork result }
     ensures cause { result ≡ Ending.BoardFault → Rose (B.faults volume.old.nor.now) (B.faults volume.new.nor.now) }
     ensures same { IsSameVolume volume.old volume.new }
     ensures soaks { (slots : ℕ) → memory volume.old ≡ closed_memory (min 65535 slots) → B.tells volume.old.nor.now → HoldsFiles volume.old.geometry (B.bytes volume.old.nor.now) [] → SoaksTo B.NorState volume.old.geometry slots seed turns volume.old.nor.now volume.new.nor.now result }
@@ -78,6 +80,7 @@ fn soak_board<'b, B: Board>(
     requires line { 12288 ≤ length line.old }
     ensures later { IsLater result }
     ensures no_script { result ≢ Ending.SourceFault }
+    ensures among { MayEndWork result }
     ensures cause { result ≡ Ending.BoardFault → Rose (B.faults board.old) (B.faults board.new) }
     ensures behind { StaysBehind B.NorState g board.old board.new }
     ensures soaks { B.tells board.old → HoldsFiles g (B.bytes board.old) [] → SoaksTo B.NorState g (length lent.entry.slots.now) seed turns board.old board.new result }
@@ -101,6 +104,7 @@ pub(crate) fn soak_on<B: Board>(
     ensures board_fault { result ≡ 7 → Rose (B.faults board.old) (B.faults board.new) }
     ensures no_script { result ≢ 8 }
     ensures no_folder { result ≢ 9 }
+    ensures ends { EndsAmong B.NorState MayEndWork board.old board.new result }
     ensures does { DoesSoak B.NorState g (length bufs.old.slots.now) seed turns board.old board.new result }
 {
     if let Err(ending) = format_board(&g, board) {

@@ -1,8 +1,10 @@
 ghost use Rattle.std.specs.Prelude.{◌≡◌, map, string_bytes, false, None};
 ghost use Rattle.nor_core.specs.Count.{Rose};
+ghost use Rattle.tool_core.specs.Among.{MayEnd};
 ghost use Rattle.tool_core.specs.Plan.{refusal_of};
 ghost use Rattle.tool_core.specs.Planned.{IsPlanned};
 ghost use Rattle.tool_core.specs.Words.{writes, has_script, has_folder, HasLimit};
+ghost use Rattle.tool_parts.specs.Among.{EndsAmong};
 ghost use Rattle.tool_parts.specs.Endings.{RefusesIf};
 ghost use Rattle.tool_core.specs.Does.{Does};
 ghost use Rattle.tool_parts.specs.Fits.{FitsFor, HasLengths};
@@ -40,6 +42,7 @@ fn perform<B: Board, S: Source, F: Folder>(
     ensures script_fault { result ≡ 8 → Rose (S.faults script.old) (S.faults script.new) }
     ensures folder_fault { result ≡ 9 → Rose (F.faults folder.old) (F.faults folder.new) }
     ensures does { Does B.NorState S.Source F.FolderState (lengths_of bufs.old) command.verb command.geometry board.old board.new script.old script.new folder.old folder.new result }
+    ensures ends { EndsAmong B.NorState (MayEnd command.verb) board.old board.new result }
     ensures untaken { has_script command.verb ≡ false → script.new ≡ script.old }
     ensures untouched { has_folder command.verb ≡ false → folder.new ≡ folder.old }
 {
@@ -83,6 +86,9 @@ pub fn spiffs_tool<B: Board, S: Source, F: Folder>(
     // .. and it is done as that command says.
     ensures does { (command : Command) → IsPlanned (asked_of B.NorState (map string_bytes words.now) board.old bufs.old) command →
         Does B.NorState S.Source F.FolderState (lengths_of bufs.old) command.verb command.geometry board.old board.new script.old script.new folder.old folder.new result }
+    // Whatever the devices tell, it comes to one of the endings of that command, and says the closing line of that last.
+    ensures ends { (command : Command) → IsPlanned (asked_of B.NorState (map string_bytes words.now) board.old bufs.old) command →
+        EndsAmong B.NorState (MayEnd command.verb) board.old board.new result }
     // Nothing is taken of a script, and no folder is touched, but by a command that has one.
     ensures untaken { ((command : Command) → IsPlanned (asked_of B.NorState (map string_bytes words.now) board.old bufs.old) command → has_script command.verb ≡ false) →
         script.new ≡ script.old }

@@ -1,5 +1,6 @@
 pub mod Refusals
 pub mod Early
+pub mod Among
 pub mod Speaking
 pub mod Reading
 pub mod Telling

@@ -4,6 +4,7 @@ pub mod Words
 pub mod Accepting
 pub mod Closing
 pub mod Endings
+pub mod Among
 pub mod Refusals
 pub mod Reads
 pub mod Fits

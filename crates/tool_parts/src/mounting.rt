@@ -8,6 +8,7 @@ ghost use Rattle.volume.specs.Holds.{memory};
 ghost use Rattle.volume.specs.Mapping.{GivesUpMap};
 ghost use Rattle.volume.specs.Stages.{takes_calls};
 ghost use Rattle.volume.specs.Same.{IsSameVolume};
+ghost use Rattle.tool_parts.specs.Among.{MayEndCheck, MayEndBegin};
 ghost use Rattle.tool_parts.specs.Begins.{Begun, CheckLeaves, StopsRun, closed_memory};
 ghost use Rattle.tool_parts.specs.Later.{IsLater};
 ghost use Rattle.tool_parts.specs.Mounting.{Checks, Reported, StopsCheck, mount_ends, check_ends};
@@ -52,6 +53,7 @@ pub fn mount_and_check<B: Board>(volume: &mut Volume<'_, B>) -> Result<Report, E
     requires { write_refusal volume.old.geometry ≡ None }
     ensures later { IfErr result IsLater }
     ensures no_script { ¬ (result ≡ Err Ending.SourceFault) }
+    ensures among { IfErr result MayEndCheck }
     ensures cause { result ≡ Err Ending.BoardFault → Rose (B.faults volume.old.nor.now) (B.faults volume.new.nor.now) }
     ensures taken { OnOk result (takes_calls volume.new ≡ true) }
     ensures closed { OnOk result (memory volume.new ≡ closed_memory (min 65535 (length volume.old.slots.now))) }
@@ -76,6 +78,7 @@ pub fn begin<B: Board>(volume: &mut Volume<'_, B>) -> Result<(), Ending>
     requires { write_refusal volume.old.geometry ≡ None }
     ensures later { IfErr result IsLater }
     ensures no_script { ¬ (result ≡ Err Ending.SourceFault) }
+    ensures among { IfErr result MayEndBegin }
     ensures cause { result ≡ Err Ending.BoardFault → Rose (B.faults volume.old.nor.now) (B.faults volume.new.nor.now) }
     ensures taken { OnOk result (takes_calls volume.new ≡ true) }
     ensures closed { OnOk result (memory volume.new ≡ closed_memory (min 65535 (length volume.old.slots.now))) }
@@ -83,6 +86,8 @@ pub fn begin<B: Board>(volume: &mut Volume<'_, B>) -> Result<(), Ending>
     ensures changes { Changes B.NorState volume.old.nor.now volume.new.nor.now (Checks volume.old.geometry) }
     ensures begun { B.tells volume.old.nor.now → OnOk result (Begun volume.old.geometry (B.bytes volume.old.nor.now) (B.bytes volume.new.nor.now)) }
     ensures leaves { B.tells volume.old.nor.now → OnOk result (CheckLeaves volume.old.geometry (B.bytes volume.old.nor.now) (B.bytes volume.new.nor.now)) }
+    ensures idle { B.tells volume.old.nor.now → IsTidy volume.old.geometry (B.bytes volume.old.nor.now) →
+        HasReserve volume.old.geometry (B.bytes volume.old.nor.now) → OnlyReads B.NorState volume.old.nor.now volume.new.nor.now }
     ensures stops { B.tells volume.old.nor.now → IfErr result (StopsRun B.NorState volume.old.geometry volume.old.nor.now volume.new.nor.now) }
 {
     match mount_and_check(volume) {

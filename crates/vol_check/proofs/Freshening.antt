@@ -23,6 +23,7 @@ use Rattle.image_laws.proofs.FreeBlocks.{filter-same, filter-but}
 use Rattle.image_laws.proofs.Matching.{filter-none_in}
 use Rattle.image_laws.proofs.TidySteps.{wanted-same}
 use Rattle.image_laws.proofs.UsesStay.{uses-itself, uses-fresh}
+use Rattle.trim_laws.proofs.Trims.{block_trims}
 use Rattle.free_search.proofs.Had.{filter_some}
 use Rattle.free_search.proofs.Beside.{page_other, magic_other, entry_other, free_entry_other, free_block_other, free_magic, free_entry_at, free_dead}
 use Rattle.room_laws.proofs.Recounts.{fresh_erases}
@@ -155,7 +156,7 @@ module _ (g : Geometry) (a : List ℕ) (c : ℕ) (is : IsImage g a) (h : HasMagi
 
   -- making it fresh
   freshens : (erases : ℕ) → erases ≡ next_count g a → Finishes g a a (acting (λ h. Freshens h c) (λ h. IsFresh h c erases)) (step_of (freshening c))
-  freshens erases next = record { needs = tt; cut = fresh_cut; done = λ b ok fresh. made b erases next fresh }
+  freshens erases next = record { needs = λ x cut. block_trims g a x c cut.outside cut.dead; cut = fresh_cut; done = λ b ok fresh. made b erases next fresh }
 
 -- where all blocks have their magic nothing is done
 pub made_none : (g : Geometry) (a : List ℕ) → HasAllMagics g a → MadeFresh g false a a

@@ -106,7 +106,7 @@ module _ (g : Geometry) (a : List ℕ) (p : ℕ) (is : IsImage g a) (h : HasMagi
   clears_entry =
       let clears = clears_dead g a p is (record { inside = page; dead = unused_dead g a p dead; byte = byte }) in
       record {
-        needs = tt;
+        needs = clears.needs;
         cut = λ c half. stays c (clears.cut c half) (still_used c half);
         done = λ c ok e.
             let cleared : Cleared g p a c = clears.done c ok e in

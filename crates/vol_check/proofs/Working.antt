@@ -73,6 +73,7 @@ module _ {N : Type 0} {nor : NorOf N} where
         cause = λ e. let rose = call.step.cause e in let more = counts.same.faults in omega arith;
         means = call.step.means;
         cuts = read_after call.step.cuts counts.reads;
+        trims = read_after call.step.trims counts.reads;
         ends = λ tells need. subst (λ (b : List ℕ). MatchResult r (work.done old.geometry (nor.bytes old.nor.now) b) (λ why. why ≡ failed.fault)) (sym counts.reads.bytes) (call.step.ends tells need);
       };
       idle = λ tells magics need quiet. reads_then (call.idle tells magics need quiet) counts.reads;
@@ -162,6 +163,7 @@ module _ {N : Type 0} {nor : NorOf N} where
             cause = λ e. rose;
             means = tt;
             cuts = after_reads counts.reads (unchanged new.nor.now _ (λ tells need. stage_none _ _ need.0));
+            trims = after_reads counts.reads (unchanged new.nor.now _ (λ tells need trim. trim));
             ends = λ tells need. refl;
           };
           idle = λ tells magics need quiet. counts.reads;

@@ -3,26 +3,27 @@ ghost use Rattle.std.specs.Bool.{OnTrue};
 ghost use Rattle.geometry.specs.Numbers.{page_count};
 ghost use Rattle.nor_core.specs.Count.{Rose};
 ghost use Rattle.image_model.specs.Killed.{is_dead_entry as the_dead_entry};
+ghost use Rattle.image_model.specs.Places.{entry_of};
 ghost use Rattle.flash_view.specs.Places.{IsEntryPage};
 ghost use Rattle.flash_view.specs.Same.{OnlyLooks};
 ghost use Rattle.vol_check.specs.Stage.{is_taken_entry};
 ghost use Rattle.vol_check.specs.Works.{Worked, cleaning_entry, cleaning_entries};
 
-use crate::culling::is_alive;
+use crate::culling::is_alive_by;
 use flash_view::{View, block_of, is_entry_page};
 use nor_core::{Failed, Nor, NorState};
 use page_layout::{DELETED, FREE};
 use page_put::kill;
 
-// Whether the entry of a page is neither deleted nor free over a page that holds 0xFF alone.
-#[tactic(auto, using(flash_view::proofs::Looking::looks_then))]
-fn is_taken<N: Nor>(v: &mut View<'_, N>, page: u16) -> Result<bool, Failed>
+// Whether this entry of a page is neither deleted nor free over a page that holds 0xFF alone.
+#[tactic(auto, using(flash_view::proofs::Looking::looks_then, flash_view::proofs::Looking::looks_none))]
+fn is_taken<N: Nor>(v: &mut View<'_, N>, page: u16, entry: u16) -> Result<bool, Failed>
     requires { IsEntryPage v.old.geometry page }
     ensures cause { OnErr result (Rose (N.faults v.old.nor.now) (N.faults v.new.nor.now)) }
     ensures looks { OnlyLooks v.old v.new }
-    ensures told { N.tells v.old.nor.now → IfOk result (λ taken. taken ≡ is_taken_entry v.old.geometry (N.bytes v.old.nor.now) page) }
+    ensures told { N.tells v.old.nor.now → entry ≡ entry_of v.old.geometry (N.bytes v.old.nor.now) page → IfOk result (λ taken. taken ≡ is_taken_entry v.old.geometry (N.bytes v.old.nor.now) page) }
 {
-    match v.entry(page)? {
+    match entry {
         DELETED => Ok(false),
         FREE => Ok(!v.is_blank(page)?),
         _ => Ok(true),
@@ -46,7 +47,8 @@ fn is_dead_entry<N: Nor>(v: &mut View<'_, N>, page: u16) -> Result<bool, Failed>
     if !v.has_magic(block_of(&g, page))? {
         return Ok(false);
     }
-    Ok(is_taken(v, page)? && !is_alive(v, page)?)
+    let entry = v.entry(page)?;
+    Ok(is_taken(v, page, entry)? && !is_alive_by(v, page, entry)?)
 }
 
 // Kills the entry of a page, if it is in use and its page isn't live: whether it was killed.

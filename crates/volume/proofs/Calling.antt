@@ -24,11 +24,12 @@ use Rattle.image_model.specs.Tables.{table_of}
 use Rattle.image_model.specs.Tidy.{HasReserve, has_spare}
 use Rattle.write_window.specs.Runs.{Run}
 use Rattle.call_model.specs.Safe.{IsSafe, Holds as HoldsImage}
-use Rattle.call_model.specs.Memory.{RunWaits}
+use Rattle.call_model.specs.Memory.{IsAt, RunWaits}
 use Rattle.call_model.specs.Calls.{Stands, Publishes, Answers}
 use Rattle.call_model.proofs.Safety.{holds_safe, holds_then, holds_itself, safe_as, safe_of_tidy}
 use Rattle.call_model.proofs.Parts.{among-left, among-right}
 use Rattle.call_model.proofs.After.{tell-stays, after-settled, settled-among, fills-as_writes}
+use Rattle.trim_laws.specs.Trim.{Trims}
 use Rattle.volume.specs.declared.stage.Stage.{Stage}
 use Rattle.volume.specs.declared.stage.Stage.TheVariants.{Checked, Failed}
 use Rattle.file_calls.specs.declared.told.Told.{Told}
@@ -216,6 +217,9 @@ module _ {N : Type 0} {nor : NorOf N} where
       unchanged v.nor.now (λ was image. (m : Moment) → Publishes v.geometry (memory v) m ask was image)
       (λ tells m at. (safe_as v.geometry a a (holds_itself v.geometry a) at.tidy, settled_first (table_of v.geometry a) m (steps v.geometry (has_spare v.geometry a) m.state ask) at.table))
 
+  pub trims_none : (v : Volume N nor) → Changes nor v.nor.now v.nor.now (λ was image. (m : Moment) → IsAt v.geometry was (memory v) m → Trims v.geometry was image)
+  trims_none v = unchanged v.nor.now (λ was image. (m : Moment) → IsAt v.geometry was (memory v) m → Trims v.geometry was image) (λ tells m at trim. trim)
+
   -- ---- a volume that takes no calls
 
   pub calls_closed : (ask : Ask) (v : Volume N nor) → takes_calls v ≡ false → Calls ask v v (Refuses FsFailed)
@@ -224,6 +228,7 @@ module _ {N : Type 0} {nor : NorOf N} where
       record {
         same = same_none v;
         cuts = cuts_none ask v;
+        trims = trims_none v;
         answers = λ m takes. absurd (never takes);
         refused = λ m takes. absurd (never takes);
         collects = λ m takes. absurd (never takes);
@@ -263,6 +268,7 @@ module _ {N : Type 0} {nor : NorOf N} where
       record {
         same = settles.same;
         cuts = wider settles.cuts (λ tells image cut m at. let c = cut m at in (c.0, among_more (table_of old.geometry image) m (steps old.geometry (has_spare old.geometry (nor.bytes old.nor.now)) m.state ask) c.1));
+        trims = settles.trims;
         answers = λ m takes here no_fault whole. absurd (no_fault (fault m here));
         refused = λ m takes none. absurd (some none);
         collects = λ m takes none. absurd (some none);
@@ -331,6 +337,10 @@ module _ {N : Type 0} {nor : NorOf N} where
         (wider settles.cuts (λ tells image cut m at. let c = cut m at in (c.0, among_more (table_of old.geometry image) m (steps old.geometry (has_spare old.geometry (nor.bytes old.nor.now)) m.state ask) c.1)))
         acts.does.cuts
         (λ tells image before after m at. let here : Holds old m = record { tells = tells; image = at } in cut_by m here image (after m.state (image_mid m here)))
+
+    trims_by : Changes nor old.nor.now new.nor.now (λ was image. (m : Moment) → IsAt old.geometry was (memory old) m → Trims old.geometry was image)
+    trims_by = go_on settles.trims acts.does.trims
+        (λ tells image before after m at trim. let here : Holds old m = record { tells = tells; image = at } in after m.state (image_mid m here) (before m at trim))
 
     -- what the flat table does once all is settled it does before
     does_before : (m : Moment) → Holds old m → IsDoable old.geometry (nor.bytes mid.nor.now) m.state ask → IsDoable old.geometry (nor.bytes old.nor.now) m.state ask
@@ -437,6 +447,7 @@ module _ {N : Type 0} {nor : NorOf N} where
     calls_by = record {
       same = same_then settles.same same;
       cuts = cuts_by;
+      trims = trims_by;
       answers = λ m takes here no_fault whole. answered_by m here no_fault whole;
       refused = λ m takes none here no_fault whole refusal. refused_by m none here no_fault whole refusal;
       collects = λ m takes none here is. subst (λ (v : Volume N nor). IsCollected old.geometry reply (nor.bytes v.nor.now) (nor.bytes new.nor.now)) (settles.idle none).1 (acts.does.collects m.state (image_mid m here) is);
@@ -482,6 +493,7 @@ module _ {N : Type 0} {nor : NorOf N} where
       record {
         same = same_none v;
         cuts = cuts_none (Tells fd) v;
+        trims = trims_none v;
         answers = λ m takes here no_fault whole. record {
           reply_is = sym (ap (λ (o : Outcome). o.answer) (moves.answers v.geometry (has_spare v.geometry a) m.state here.image.slots));
           stands = subst (λ (j : Moment). Stands nor v.geometry v.nor.now (memory v) j) (sym (tell-stays v.geometry (has_spare v.geometry a) m fd)) here;
@@ -532,6 +544,7 @@ module _ {N : Type 0} {nor : NorOf N} where
         same = calls.same;
         cuts = wider calls.cuts (λ tells image cut m at. let c = cut m at in
             (c.0, subst (λ (more : List (List File)). IsAmong (table_of g image) (from_settled m more)) (sym (fills-as_writes g spare m fd count byte).steps_are) c.1));
+        trims = calls.trims;
         answers = λ m takes here no_fault short.
             let f = fills-as_writes g spare m fd count byte in
             let a = calls.answers m takes here no_fault (whole m.state) in

@@ -37,6 +37,7 @@ use Rattle.call_model.proofs.Parts.{written_on, put_twice}
 use Rattle.call_model.proofs.Writing.{write-is_done, continues-accepted}
 use Rattle.call_model.proofs.Waiting.{on-moment, wait_goes_on}
 use Rattle.call_model.proofs.Empty.{empty-is_done}
+use Rattle.trim_laws.specs.Trim.{Trims}
 use Rattle.volume.specs.declared.volume.Volume.{Volume}
 use Rattle.fd_table.specs.declared.slot.FdSlot.{FdSlot}
 use Rattle.fd_table.specs.Slots.{descriptors, held, opened}
@@ -293,6 +294,8 @@ module _ {N : Type 0} {nor : NorOf N} where
         cuts = subst (λ (d : N). Changes nor old.nor.now d (λ was image. (m : Moment) → Publishes old.geometry (memory_of old) m (Writes fd bytes) was image)) (sym device)
             (unchanged old.nor.now (λ was image. (m : Moment) → Publishes old.geometry (memory_of old) m (Writes fd bytes) was image) (λ tells m at.
             (safe_as old.geometry (nor.bytes old.nor.now) (nor.bytes old.nor.now) (holds_itself old.geometry (nor.bytes old.nor.now)) at.tidy, is_first (table_of old.geometry (nor.bytes old.nor.now)) m.settled (m.waiting ++ steps old.geometry (has_spare old.geometry (nor.bytes old.nor.now)) m.state (Writes fd bytes)) at.table)));
+        trims = subst (λ (d : N). Changes nor old.nor.now d (λ was image. (m : Moment) → IsAt old.geometry was (memory_of old) m → Trims old.geometry was image)) (sym device)
+            (unchanged old.nor.now (λ was image. (m : Moment) → IsAt old.geometry was (memory_of old) m → Trims old.geometry was image) (λ tells m at trim. trim));
         answers = λ m takes here no_fault whole. subst (λ (d : N). Answers nor old.geometry old.nor.now d (memory_of new) m (Writes fd bytes) (Number n)) (sym device) (answers m here);
         refused = λ m takes none. absurd (busy none);
         collects = λ m takes none. absurd (busy none);

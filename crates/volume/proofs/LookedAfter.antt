@@ -44,6 +44,7 @@ module _ {D : Type 0} {nor : NorOf D} {g : Geometry} {mid new : D} (reads : Only
     does_on : Does nor g ask old mid slots last wrote reply → Does nor g ask old new slots last wrote reply
     does_on did = record {
       cuts = read_after did.cuts reads;
+      trims = read_after did.trims reads;
       collects = λ s here is. subst (λ (l : List ℕ). IsCollected g reply (nor.bytes old) l) (sym reads.bytes) (did.collects s here is);
       cornered = λ s here corner tight.
           let w = did.cornered s here corner tight in
@@ -89,6 +90,7 @@ module _ {D : Type 0} {nor : NorOf D} {g : Geometry} {mid new : D} (reads : Only
     cause = λ e. let rose = did.cause e in omega (arith, rose, reads.faults);
     means = did.means;
     cuts = read_after did.cuts reads;
+    trims = read_after did.trims reads;
     ends = λ tells can. subst (λ (l : List ℕ). MatchResult result (λ ok. JobDone g (put_file (written at bytes f) (table_of g (nor.bytes old))) l) (λ why. why ≡ DeviceFault)) (sym reads.bytes) (did.ends tells can);
   }
 
@@ -99,6 +101,7 @@ settles_read {N} {nor} {old} {mid} {new} had was reads same slots run stage idle
   same = same_then was.same same;
   slots = slots ∙ was.slots;
   cuts = read_after was.cuts reads;
+  trims = read_after was.trims reads;
   done = (stage ∙ was.done.0, run ∙ was.done.1, was.done.2);
   stops = tt;
   idle = λ none. let w = was.idle none in (w.0, idle none ∙ w.1);

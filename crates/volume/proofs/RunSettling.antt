@@ -24,6 +24,7 @@ use Rattle.fd_table.specs.Slots.{descriptors}
 use Rattle.write_window.specs.declared.window.Held.{Held}
 use Rattle.write_window.specs.Shown.{run_in}
 use Rattle.write_window.specs.Runs.{Run}
+use Rattle.trim_laws.specs.Trim.{Trims}
 use Rattle.flash_view.specs.declared.view.View.{View}
 use Rattle.flash_view.specs.Steps.{Stepped}
 use Rattle.call_model.specs.Safe.{IsSafe}
@@ -131,7 +132,7 @@ module _ {N : Type 0} {nor : NorOf N} where
   -- a write over a view, as one on its device
   pub writes_on : {id at : ℕ} {bytes : List ℕ} {f : File} {old new : View N nor} {result : Result (Unit {0}) FsErr} → Stepped refusing old new result (writing id at bytes f) → old.wrote ≡ false →
       WritesOn nor old.geometry id at bytes f old.nor.now new.nor.now new.wrote result
-  writes_on step fresh = record { untouched = step.framed.untouched fresh; cause = step.cause; means = step.means; cuts = step.cuts; ends = step.ends }
+  writes_on step fresh = record { untouched = step.framed.untouched fresh; cause = step.cause; means = step.means; cuts = step.cuts; trims = step.trims; ends = step.ends }
 
   -- nothing waits
   pub settles_none : (v : Volume N nor) → (memory v).run ≡ None → Settles v v (Ok false)
@@ -143,6 +144,7 @@ module _ {N : Type 0} {nor : NorOf N} where
         slots = refl;
         cuts = unchanged v.nor.now (λ was image. (m : Moment) → IsAt g was (memory v) m → IsSafe g was image × IsAmong (table_of g image) (from_settled m []))
             (λ tells m at. (safe_as g a a (holds_itself g a) at.tidy, settled_first (table_of g a) m [] at.table));
+        trims = unchanged v.nor.now (λ was image. (m : Moment) → IsAt g was (memory v) m → Trims g was image) (λ tells m at trim. trim);
         done = (refl, none, sym (ap is_some none));
         stops = tt;
         idle = λ e. (refl, refl);
@@ -161,6 +163,13 @@ module _ {N : Type 0} {nor : NorOf N} where
       let g = old.geometry in
       let was = nor.bytes old.nor.now in
       wider (writes (file_in g was r.id)).cuts (λ tells image cut m at. cut_waits g was (memory old) m r run at image (cut (can_write g was (memory old) m r run at)))
+
+  settling_trims : (old new : Volume N nor) (r : Run) (run : (memory old).run ≡ Some r) (wrote : Bool) (result : Result (Unit {0}) FsErr) → ((f : File) → WritesOn nor old.geometry r.id r.start r.bytes f old.nor.now new.nor.now wrote result) →
+      Changes nor old.nor.now new.nor.now (λ was image. (m : Moment) → IsAt old.geometry was (memory old) m → Trims old.geometry was image)
+  settling_trims old new r run wrote result writes =
+      let g = old.geometry in
+      let was = nor.bytes old.nor.now in
+      wider (writes (file_in g was r.id)).trims (λ tells image trim m at. trim (can_write g was (memory old) m r run at))
 
   -- a volume stands where all is settled, by its image
   pub settled_now : (old new : Volume N nor) (s : State) → IsSameVolume old new → new.slots.now ≡ old.slots.now → (memory new).run ≡ None → nor.tells new.nor.now →
@@ -183,6 +192,7 @@ module _ {N : Type 0} {nor : NorOf N} where
           same = same;
           slots = slots;
           cuts = cuts;
+          trims = settling_trims old new r run wrote (Ok tt) writes;
           done = (stage, none, sym (ap is_some run));
           stops = tt;
           idle = λ e. absurd (waits_not old r run e);
@@ -205,6 +215,7 @@ module _ {N : Type 0} {nor : NorOf N} where
           same = same;
           slots = slots;
           cuts = settling_cuts old new r run wrote (Err why) writes;
+          trims = settling_trims old new r run wrote (Err why) writes;
           done = tt;
           stops = record {
             among = stops_settling why (writes f).means;

@@ -45,7 +45,7 @@ use Rattle.file_calls.specs.Refusals.{IsResized}
 use Rattle.file_calls.specs.Collecting.{refusing}
 use Rattle.volume.specs.Acts.{Acts}
 use Rattle.file_calls.specs.Writings.{writing}
-use Rattle.file_calls.proofs.Going.{IsStep, is_flat, reads_cuts, names_by, named_fine}
+use Rattle.file_calls.proofs.Going.{IsStep, is_flat, reads_cuts, reads_trims, names_by, named_fine}
 use Rattle.volume.proofs.Acting.{EndsSettled}
 use Rattle.file_calls.proofs.Descriptors.{open_in, file_at}
 use Rattle.file_calls.proofs.Cutting.{TellsRoom}
@@ -260,6 +260,7 @@ module _ {D : Type 0} {nor : NorOf D} {g : Geometry} {old : D} {slots : List FdS
           acts_waiting kept = subst (λ (r : Option Run). Acts nor g (Writes fd bytes) old new slots last r wrote (Number (length bytes))) (sym kept) (record {
             does = record {
               cuts = reads_cuts (Writes fd bytes) reads;
+              trims = reads_trims reads;
               collects = λ s here is. absurd (let no : true ≡ false = ap is_flat is in cc);
               cornered = λ s here corner tight. absurd (let no : false ≡ true = corner.cuts in cc);
               begun = λ s here w. absurd (let no : true ≡ false = sym w ∙ none in cc);

@@ -13,6 +13,7 @@ use Rattle.table_model.specs.Steps.{is_refusal}
 use Rattle.table_model.specs.Window.{Moment, settled_at, leaves_window, incoming_of, continues}
 use Rattle.image_model.specs.Tidy.{HasReserve}
 use Rattle.image_model.specs.Collect.{chosen_block}
+use Rattle.trim_laws.specs.Trim.{Trims}
 use Rattle.block_gc.specs.RoomMade.{IsReady}
 use Rattle.call_model.specs.Calls.{Publishes, Answers}
 use Rattle.volume.specs.declared.volume.Volume.{Volume}
@@ -49,6 +50,8 @@ module _ {N : Type 0} {nor : NorOf N} where
     pub same : IsSameVolume old new
     -- what a cut leaves, of a volume that stands at a moment
     pub cuts : Changes nor old.nor.now new.nor.now (λ was image. (m : Moment) → Publishes old.geometry (memory old) m ask was image)
+    -- where no header page named a page behind the last one of its file, none does, at a cut and after the call
+    pub trims : Changes nor old.nor.now new.nor.now (λ was image. (m : Moment) → IsAt old.geometry was (memory old) m → Trims old.geometry was image)
     -- the answer, where the device doesn't fail and garbage collection isn't stuck; refused where nothing waits, the call changes nothing
     pub answers : (m : Moment) → takes_calls old ≡ true → Holds old m → ¬ (reply ≡ Refuses DeviceFault) → ¬ StopsShort old.geometry (nor.bytes old.nor.now) m.state ask reply → Answers nor old.geometry old.nor.now new.nor.now (memory new) m ask reply
     pub refused : (m : Moment) → takes_calls old ≡ true → HasNone old → Holds old m → ¬ (reply ≡ Refuses DeviceFault) → ¬ StopsShort old.geometry (nor.bytes old.nor.now) m.state ask reply → is_refusal reply ≡ true → Unchanged old new

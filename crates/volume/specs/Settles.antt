@@ -12,6 +12,7 @@ use Rattle.table_model.specs.Window.{Moment, settled_at, from_settled, IsAmong}
 use Rattle.image_model.specs.Tables.{table_of}
 use Rattle.call_model.specs.Safe.{IsSafe, Holds as HoldsImage}
 use Rattle.call_model.specs.Memory.{IsAt}
+use Rattle.trim_laws.specs.Trim.{Trims}
 use Rattle.volume.specs.declared.volume.Volume.{Volume}
 use Rattle.volume.specs.Stages.{takes_calls, has_failed}
 use Rattle.volume.specs.Same.{IsSameVolume}
@@ -41,6 +42,8 @@ module _ {N : Type 0} {nor : NorOf N} where
     pub slots : new.slots.now ≡ old.slots.now
     -- a cut leaves a table that waited
     pub cuts : Changes nor old.nor.now new.nor.now (λ was image. (m : Moment) → IsAt old.geometry was (memory old) m → IsSafe old.geometry was image × IsAmong (table_of old.geometry image) (from_settled m []))
+    -- where no header page named a page behind the last one of its file, none does, at a cut and after the call
+    pub trims : Changes nor old.nor.now new.nor.now (λ was image. (m : Moment) → IsAt old.geometry was (memory old) m → Trims old.geometry was image)
     pub done : IfOk result (λ had. (new.stage ≡ old.stage) × ((memory new).run ≡ None) × (had ≡ is_some (memory old).run))
     pub stops : IfErr result (StopsSettling old new)
     -- where nothing waits nothing is done

@@ -13,15 +13,22 @@ use Rattle.folder_core.specs.declared.state.FolderState.{Ghosts as FolderOf}
 use Rattle.volume.specs.declared.volume.Volume.{Volume}
 use Rattle.volume_run.specs.Ready.{IsReady}
 use Rattle.volume_run.specs.declared.asking.Stop.TheVariants.{Fault}
+use Rattle.volume_run.specs.Stops.{IsApart as StopIsApart}
 use Rattle.image_make.specs.Refusals.{make_refusal, index_sum, data_sum}
 use Rattle.call_model.specs.Closed.{with_files}
 use Rattle.image_make.specs.Putting.{put_state, begun_state, IsNew}
 use Rattle.volume_make.specs.declared.put_err.PutErr.{PutErr}
-use Rattle.volume_make.specs.declared.put_err.PutErr.TheVariants.{Folder, Stopped}
+use Rattle.volume_make.specs.declared.put_err.PutErr.TheVariants.{Folder, Stopped, Refused}
 
 -- the folder failed, or the device did
 abbrev pub IsFault : PutErr → Type 0
 IsFault why = (why ≡ Folder) ⊎ (why ≡ Stopped Fault)
+
+-- of a page that reads otherwise, what was wanted there and what was found differ
+abbrev pub IsApart : PutErr → Type 0
+IsApart Folder = Unit {0}
+IsApart (Stopped stop) = StopIsApart stop
+IsApart Refused = Unit {0}
 
 -- the line of an image that was made: files, index pages and data pages
 abbrev pub made_text : (files index pages : ℕ) → List ℕ

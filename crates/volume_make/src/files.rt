@@ -3,7 +3,7 @@ ghost use Rattle.nor_core.specs.Count.{Rose};
 ghost use Rattle.folder_core.specs.Files.{name_at, size_at};
 ghost use Rattle.folder_core.specs.Puts.{Kept};
 ghost use Rattle.volume_run.specs.Ready.{IsMoved};
-ghost use Rattle.volume_make.specs.Making.{IsMadeFrom, OnlyFailsFrom, PutsFrom, FailsFrom, BeginsFrom, StopsBeginning, TellsFrom, StopsTelling};
+ghost use Rattle.volume_make.specs.Making.{IsApart, IsMadeFrom, OnlyFailsFrom, PutsFrom, FailsFrom, BeginsFrom, StopsBeginning, TellsFrom, StopsTelling};
 
 use crate::PutErr;
 use crate::performing::perform;
@@ -22,6 +22,7 @@ const NEW: u32 = 20;
 fn open_new<N: Nor>(volume: &mut Volume<'_, N>, name: &[u8]) -> Result<u16, PutErr>
     ensures moved { IsMoved volume.old volume.new }
     ensures cause { result ≡ Err (PutErr.Stopped Stop.Fault) → Rose (N.faults volume.old.nor.now) (N.faults volume.new.nor.now) }
+    ensures apart { IfErr result IsApart }
     ensures folder { result ≡ Err PutErr.Folder → ⊥ }
     ensures begins { IfOk result (BeginsFrom name.now volume.old volume.new) }
     ensures stops { IfErr result (StopsBeginning name.now volume.old) }
@@ -49,6 +50,7 @@ fn write_file<N: Nor, F: Folder>(
     ensures moved { IsMoved volume.old volume.new }
     ensures kept { Kept F.FolderState folder.old folder.new }
     ensures cause { result ≡ Err (PutErr.Stopped Stop.Fault) → Rose (N.faults volume.old.nor.now) (N.faults volume.new.nor.now) }
+    ensures apart { IfErr result IsApart }
     ensures folder_cause { result ≡ Err PutErr.Folder → Rose (F.faults folder.old) (F.faults folder.new) }
     ensures puts { name.now ≡ name_at (F.entries folder.old) i → OnOk result (PutsFrom F.FolderState i (i + 1) volume.old volume.new folder.old folder.new) }
     ensures stops { name.now ≡ name_at (F.entries folder.old) i → IfErr result (FailsFrom F.FolderState i volume.old folder.old) }
@@ -71,6 +73,7 @@ fn put_file<N: Nor, F: Folder>(
     ensures moved { IsMoved volume.old volume.new }
     ensures kept { Kept F.FolderState folder.old folder.new }
     ensures cause { result ≡ Err (PutErr.Stopped Stop.Fault) → Rose (N.faults volume.old.nor.now) (N.faults volume.new.nor.now) }
+    ensures apart { IfErr result IsApart }
     ensures folder_cause { result ≡ Err PutErr.Folder → Rose (F.faults folder.old) (F.faults folder.new) }
     ensures puts { OnOk result (PutsFrom F.FolderState i (i + 1) volume.old volume.new folder.old folder.new) }
     ensures stops { IfErr result (FailsFrom F.FolderState i volume.old folder.old) }
@@ -100,6 +103,7 @@ fn put_each<N: Nor, F: Folder>(
     ensures moved { IsMoved volume.old volume.new }
     ensures kept { Kept F.FolderState folder.old folder.new }
     ensures cause { result ≡ Err (PutErr.Stopped Stop.Fault) → Rose (N.faults volume.old.nor.now) (N.faults volume.new.nor.now) }
+    ensures apart { IfErr result IsApart }
     ensures folder_cause { result ≡ Err PutErr.Folder → Rose (F.faults folder.old) (F.faults folder.new) }
     ensures puts { OnOk result (PutsFrom F.FolderState 0 count volume.old volume.new folder.old folder.new) }
     ensures stops { IfErr result (FailsFrom F.FolderState 0 volume.old folder.old) }
@@ -114,6 +118,7 @@ fn put_each<N: Nor, F: Folder>(
 fn tell_info<N: Nor>(volume: &mut Volume<'_, N>) -> Result<Info, PutErr>
     ensures moved { IsMoved volume.old volume.new }
     ensures cause { result ≡ Err (PutErr.Stopped Stop.Fault) → Rose (N.faults volume.old.nor.now) (N.faults volume.new.nor.now) }
+    ensures apart { IfErr result IsApart }
     ensures folder { result ≡ Err PutErr.Folder → ⊥ }
     ensures told { IfOk result (TellsFrom volume.old volume.new) }
     ensures stops { IfErr result (StopsTelling volume.old) }
@@ -140,6 +145,7 @@ pub fn put_files<N: Nor, F: Folder>(
     ensures moved { IsMoved volume.old volume.new }
     ensures kept { Kept F.FolderState folder.old folder.new }
     ensures cause { result ≡ Err (PutErr.Stopped Stop.Fault) → Rose (N.faults volume.old.nor.now) (N.faults volume.new.nor.now) }
+    ensures apart { IfErr result IsApart }
     ensures folder_cause { result ≡ Err PutErr.Folder → Rose (F.faults folder.old) (F.faults folder.new) }
     ensures made { IfOk result (IsMadeFrom F.FolderState volume.old folder.old volume.new) }
     ensures stops { IfErr result (OnlyFailsFrom F.FolderState volume.old folder.old) }

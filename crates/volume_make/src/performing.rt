@@ -4,7 +4,7 @@ ghost use Rattle.table_model.specs.Ask.{asked};
 ghost use Rattle.table_model.specs.Steps.{is_refusal};
 ghost use Rattle.file_calls.specs.Replies.{HasRoomFor, shown_by};
 ghost use Rattle.volume_run.specs.Ready.{IsMoved};
-ghost use Rattle.volume_make.specs.Making.{DoneFrom, UndoneFrom};
+ghost use Rattle.volume_make.specs.Making.{IsApart, DoneFrom, UndoneFrom};
 
 use crate::PutErr;
 use nor_core::{Nor, NorState};
@@ -24,6 +24,7 @@ pub(crate) fn perform<N: Nor>(volume: &mut Volume<'_, N>, call: &Call<'_>) -> Re
     requires room { HasRoomFor (asked call.now) 0 }
     ensures moved { IsMoved volume.old volume.new }
     ensures cause { result ≡ Err (PutErr.Stopped Stop.Fault) → Rose (N.faults volume.old.nor.now) (N.faults volume.new.nor.now) }
+    ensures apart { IfErr result IsApart }
     ensures folder { result ≡ Err PutErr.Folder → ⊥ }
     ensures done { OnOk result (DoneFrom volume.old (asked call.now) volume.new) }
     ensures undone { IfErr result (UndoneFrom volume.old (asked call.now)) }

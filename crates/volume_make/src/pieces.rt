@@ -4,7 +4,7 @@ ghost use Rattle.nor_core.specs.Count.{Rose};
 ghost use Rattle.folder_core.specs.Files.{size_at};
 ghost use Rattle.folder_core.specs.Puts.{Kept};
 ghost use Rattle.volume_run.specs.Ready.{IsMoved};
-ghost use Rattle.volume_make.specs.Making.{WritesFrom, StopsWriting};
+ghost use Rattle.volume_make.specs.Making.{IsApart, WritesFrom, StopsWriting};
 
 use crate::PutErr;
 use crate::performing::perform;
@@ -29,6 +29,7 @@ fn put_piece<N: Nor, F: Folder>(
     ensures moved { IsMoved volume.old volume.new }
     ensures kept { Kept F.FolderState folder.old folder.new }
     ensures cause { result ≡ Err (PutErr.Stopped Stop.Fault) → Rose (N.faults volume.old.nor.now) (N.faults volume.new.nor.now) }
+    ensures apart { IfErr result IsApart }
     ensures folder_cause { result ≡ Err PutErr.Folder → Rose (F.faults folder.old) (F.faults folder.new) }
     ensures puts { fd ≡ 1 → OnOk result (WritesFrom F.FolderState i at (at + length piece.old) volume.old volume.new folder.old folder.new) }
     ensures stops { fd ≡ 1 → IfErr result (StopsWriting F.FolderState i at volume.old folder.old) }
@@ -70,6 +71,7 @@ pub(crate) fn put_pieces<N: Nor, F: Folder>(
     ensures moved { IsMoved volume.old volume.new }
     ensures kept { Kept F.FolderState folder.old folder.new }
     ensures cause { result ≡ Err (PutErr.Stopped Stop.Fault) → Rose (N.faults volume.old.nor.now) (N.faults volume.new.nor.now) }
+    ensures apart { IfErr result IsApart }
     ensures folder_cause { result ≡ Err PutErr.Folder → Rose (F.faults folder.old) (F.faults folder.new) }
     ensures puts { fd ≡ 1 → OnOk result (WritesFrom F.FolderState i 0 size volume.old volume.new folder.old folder.new) }
     ensures stops { fd ≡ 1 → IfErr result (StopsWriting F.FolderState i 0 volume.old folder.old) }

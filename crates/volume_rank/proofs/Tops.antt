@@ -5,7 +5,7 @@ use Rattle.std.proofs.lemmas.Bool.{cases_lt, lt-ltb, le-ltb}
 use Rattle.geometry.specs.declared.geometry.Geometry.{Geometry}
 use Rattle.image_model.specs.Tables.{table_of, damaged_of}
 use Rattle.meta_guess.specs.Guesses.{SameBut, IsMeta, CountsOf}
-use Rattle.meta_tally.specs.Counted.{IsAlike, AreTallied}
+use Rattle.meta_tally.specs.Counted.{AreTallied}
 use Rattle.volume_rank.specs.declared.found.MetaRange.{MetaRange}
 use Rattle.volume_rank.specs.Ranges.{ReadsEqual, IsRange}
 use Rattle.volume_rank.specs.Tops.{IsBestOf, IsTop}
@@ -34,13 +34,10 @@ best_next whole meta best next was is = ⊎_elim
     }))
     (cases_lt (slice_index whole best) (slice_index whole meta))
 
-alike : (g h : Geometry) → SameBut g h → IsAlike g h
-alike g h same = record { page_is = same.page; block_is = same.block; blocks_is = same.blocks; phys_is = same.phys; meta_is = refl; magic_is = same.magic }
-
 module _ (g : Geometry) (image : List ℕ) (whole : List ℕ) (heads : ℕ) (range : MetaRange) (tallied : AreTallied g image whole)
-    (all : (h : Geometry) → IsAlike g h → heads ≡ length (table_of h image) + length (damaged_of h image)) (top : IsTop whole heads range) where
+    (all : (h : Geometry) → SameBut g h → heads ≡ length (table_of h image) + length (damaged_of h image)) (top : IsTop whole heads range) where
   tally : (h : Geometry) → SameBut g h → slice_index whole h.meta ≡ length (table_of h image)
-  tally h same = tallied.each h (alike g h same)
+  tally h same = tallied.each h same
 
   most_is : (h : Geometry) → SameBut g h → length (table_of h image) ≤ range.counts.whole
   most_is h same = let most = top.best.most h.meta (omega (arith, h.valid.meta_most)) in let here = tally h same in omega (arith, most, here, top.counted)
@@ -48,7 +45,7 @@ module _ (g : Geometry) (image : List ℕ) (whole : List ℕ) (heads : ℕ) (ran
   first_is : (h : Geometry) → IsMeta g range.first h → CountsOf h image range.counts
   first_is h is =
       let here : slice_index whole range.first ≡ length (table_of h image) = ap (λ (k : ℕ). slice_index whole k) (sym is.meta_is) ∙ tally h is.same in
-      let sum = all h (alike g h is.same) in
+      let sum = all h is.same in
       record { whole = top.counted ∙ here; damaged = omega (arith, top.counted, top.damaged, here, sum) }
 
   more_is : ReadsEqual g image range.counts.whole range.first range.last
@@ -65,7 +62,7 @@ module _ (g : Geometry) (image : List ℕ) (whole : List ℕ) (heads : ℕ) (ran
   range_is h is = record {
     counts = record { volume = h; is = is; counts_are = first_is h is };
     most = most_is;
-    fewest = λ k same. let sum = all k (alike g k same) in let most = most_is k same in omega (arith, sum, most, top.damaged);
+    fewest = λ k same. let sum = all k same in let most = most_is k same in omega (arith, sum, most, top.damaged);
     least = λ k same low. let less = top.best.least k.meta low in let here = tally k same in omega (arith, less, here, top.counted);
     more = more_is;
   }

@@ -8,8 +8,9 @@ ghost use Rattle.volume_rank.specs.Finds.{IsFound, AreAll, AreMore};
 ghost use Rattle.volume_rank.specs.Ranges.{IsRange};
 
 use crate::found::{Found, MetaRange};
-use crate::ranges::{METAS, top_range, with_meta};
+use crate::ranges::{METAS, top_range};
 use geometry::Geometry;
+use meta_guess::with_meta;
 use meta_tally::tally_files;
 use thiserror::Error;
 use volume_detect::{byte_of, next_candidate};
@@ -23,8 +24,8 @@ pub struct TooFew;
 fn range_at(file: &[u8], at: u32, g: &Geometry, work: &mut [u8], marks: &mut [u8]) -> MetaRange
     requires small { length file.now < 2 ^ 32 }
     requires inside { at + g.now.blocks * g.now.block ≤ length file.now }
-    requires work { 2 ^ 20 ≤ length work.old }
-    requires check { 73727 ≤ length marks.old }
+    requires work { 557056 ≤ length work.old }
+    requires check { 65535 ≤ length marks.old }
     ensures few { result.first ≤ 64 }
     ensures range { (h : AnyGeometry) → IsMeta g.now result.first h → IsRange g.now (drop at file.now) result }
 {
@@ -38,8 +39,8 @@ fn found_at(file: &[u8], place: u32, g: &Geometry, work: &mut [u8], marks: &mut 
     requires small { length file.now < 2 ^ 32 }
     requires place { place < 84 * 2 ^ 20 }
     requires found { IsFoundAt file.now place g.now }
-    requires work { 2 ^ 20 ≤ length work.old }
-    requires check { 73727 ≤ length marks.old }
+    requires work { 557056 ≤ length work.old }
+    requires check { 65535 ≤ length marks.old }
     ensures found { IsFound file.now result }
     ensures place { result.place ≡ place }
 {
@@ -54,20 +55,18 @@ fn found_at(file: &[u8], place: u32, g: &Geometry, work: &mut [u8], marks: &mut 
 
 /// Gets all candidates of a file into a lent list, in order of their places, each with what it reads. Answers how many they are,
 /// or that the list is too short for them. The file's words are those that `volume_detect::read_words` reads. Of lent bytes it takes
-/// 1,048,576 for work and 73,727 for marks, which is enough for every volume; those for copies of pages aren't used.
+/// 557,056 for work and 65,535 for marks, which is enough for every volume.
 pub fn collect(
     file: &[u8],
     words: &[u8],
     work: &mut [u8],
-    cache: &mut [u8],
     marks: &mut [u8],
     found: &mut [Found],
 ) -> Result<usize, TooFew>
     requires small { length file.now < 2 ^ 32 }
     requires words { HasWords file.now words.now }
-    requires work { 2 ^ 20 ≤ length work.old }
-    requires cache { 4104 ≤ length cache.old }
-    requires check { 73727 ≤ length marks.old }
+    requires work { 557056 ≤ length work.old }
+    requires check { 65535 ≤ length marks.old }
     ensures all { IfOk result (λ count. (count ≤ length found.new) × AreAll file.now found.new count) }
     ensures more { OnErr result (AreMore file.now found.new) }
 {

@@ -1,24 +1,12 @@
 // The numbers of meta bytes that read most of a volume.
 ghost use Rattle.std.specs.Prelude.{◌≡◌, ℕ, ◌+◌, ◌<◌, ◌≤◌, length, slice_index, nat_lt, if◌then◌else◌};
-ghost use Rattle.meta_guess.specs.Guesses.{IsMeta};
 ghost use Rattle.volume_rank.specs.Tops.{IsBestOf, IsLastOf, IsTop};
 
 use crate::found::MetaRange;
-use geometry::Geometry;
 use meta_guess::Counts;
 
 /// How many numbers of meta bytes there are.
 pub(crate) const METAS: usize = 65;
-
-// The same volume with another number of meta bytes.
-pub(crate) fn with_meta(g: &Geometry, meta: u32) -> Geometry
-    requires { meta ≤ 64 }
-    ensures { IsMeta g.now meta result }
-{
-    let mut other = *g;
-    other.meta = meta;
-    other
-}
 
 // Of two numbers of meta bytes the one by which more files are whole; of equal ones the first.
 fn better(whole: &[u32], best: u32, meta: u32) -> u32

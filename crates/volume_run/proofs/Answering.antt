@@ -13,6 +13,7 @@ use Rattle.call_model.specs.Calls.{Stands}
 use Rattle.call_model.proofs.After.{other-settles}
 use Rattle.run_model.specs.Ran.{RunAnswers}
 use Rattle.run_model.proofs.OneCall.{run_answers, after_state, room_after}
+use Rattle.trim_laws.specs.Trim.{Trims}
 use Rattle.volume.specs.declared.volume.Volume.{Volume}
 use Rattle.volume.specs.Holds.{memory, Holds}
 use Rattle.volume.specs.Opening.{is_open}
@@ -73,6 +74,7 @@ module _ {N : Type 0} {nor : NorOf N} where
           stands = ran.stands;
           room = room_after g m ask ready.room;
           state_is = after_state g true m ask ∙ ap (λ (t : State). (answer g true t ask).next) ready.state_is;
+          trim = subst (λ (h : Geometry). Trims h (nor.bytes old.nor.now) (nor.bytes new.nor.now)) ready.geometry (calls.trims.now (holds_at ready).tells m (holds_at ready).image) ready.trim;
         };
       }
 

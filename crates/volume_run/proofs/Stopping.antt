@@ -1,5 +1,5 @@
 -- Calls after which no further one is made.
-use Rattle.std.proofs.Common.{◌≡◌, ℕ, List, refl, sym, false, Option, Some, None, Result, Ok, Err}
+use Rattle.std.proofs.Common.{◌≡◌, ℕ, List, refl, sym, subst, false, Option, Some, None, Result, Ok, Err}
 use Rattle.std.specs.Prelude.{IfErr}
 use Rattle.std.specs.Result.{IsErrAnd}
 use Rattle.std.proofs.lemmas.Option.{same_Some, none-some}
@@ -17,7 +17,7 @@ use Rattle.volume.specs.Calls.{Calls}
 use Rattle.volume_run.specs.declared.asking.Stop.{Stop}
 use Rattle.volume_run.specs.declared.asking.Stop.TheVariants.{Fault, Differ}
 use Rattle.volume_run.specs.Ready.{IsReady, IsAnsweredFrom, IsOpenedFrom}
-use Rattle.volume_run.specs.Stops.{stop_by, StopsFrom}
+use Rattle.volume_run.specs.Stops.{stop_by, IsApart, StopsFrom}
 use Rattle.volume_run.proofs.Answering.{undamaged}
 
 -- after another refusal calls go on
@@ -32,6 +32,12 @@ module _ {N : Type 0} {nor : NorOf N} {old new : Volume N nor} {ask : Ask} where
   fault_rose DeviceFault is calls = calls.cause refl
   fault_rose (Damaged d) is calls = absurd (let no : Differ d ≡ Fault = same_Some (Differ d) Fault is in cc)
   fault_rose _ is calls = absurd (none-some Fault is)
+
+  -- a page that reads otherwise is told by two tags that differ
+  pub stops_apart : (why : FsErr) (stop : Stop) → stop_by why ≡ Some stop → Calls ask old new (Refuses why) → IsApart stop
+  stops_apart DeviceFault stop is calls = subst (λ (s : Stop). IsApart s) (same_Some Fault stop is) (tt {0})
+  stops_apart (Damaged d) stop is calls = subst (λ (s : Stop). IsApart s) (same_Some (Differ d) stop is) (calls.differs d refl)
+  stops_apart _ stop is calls = absurd (none-some stop is)
 
   -- a volume that stands at a state stops only where the device failed
   pub stops_by_fault : {g : Geometry} {s : State} (why : FsErr) (stop : Stop) → stop_by why ≡ Some stop → IsReady g old s → Calls ask old new (Refuses why) → stop ≡ Fault

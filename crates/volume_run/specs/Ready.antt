@@ -11,6 +11,7 @@ use Rattle.table_model.specs.Flat.{answer}
 use Rattle.table_model.specs.Window.{Moment}
 use Rattle.image_model.specs.Tables.{table_of}
 use Rattle.run_model.specs.Ran.{RunStands}
+use Rattle.trim_laws.specs.Trim.{IsTrim}
 use Rattle.volume.specs.declared.volume.Volume.{Volume}
 use Rattle.volume.specs.Holds.{memory}
 use Rattle.volume.specs.Same.{IsSameVolume}
@@ -22,7 +23,8 @@ opened (Tells fd) = Some fd
 opened _ = None
 
 module _ {N : Type 0} {nor : NorOf N} where
-  -- A volume of that geometry takes calls and stands at a state of the flat table: two blocks are free, and the table has room.
+  -- A volume of that geometry takes calls and stands at a state of the flat table: two blocks are free, the table has room, and no header
+  -- page names a page behind the last one of its file.
   pub record IsReady (g : Geometry) (v : Volume N nor) (s : State) : Type 0 where
     pub geometry : v.geometry ≡ g
     pub takes : takes_calls v ≡ true
@@ -30,6 +32,7 @@ module _ {N : Type 0} {nor : NorOf N} where
     pub stands : RunStands nor g v.nor.now (memory v) moment
     pub room : has_room g moment.state.table ≡ true
     pub state_is : moment.state ≡ s
+    pub trim : IsTrim g (nor.bytes v.nor.now)
 
   -- A call was answered as the flat table is, and the volume stands at the state after it.
   pub record IsAnswered (g : Geometry) (s : State) (ask : Ask) (new : Volume N nor) (reply : Answer) : Type 0 where

@@ -1,5 +1,5 @@
 -- Why a tool makes no further call.
-use Rattle.std.specs.Prelude.{◌≡◌, Option, Some, None}
+use Rattle.std.specs.Prelude.{◌≡◌, ◌≢◌, Option, Some, None}
 use Rattle.geometry.specs.declared.geometry.Geometry.{Geometry}
 use Rattle.nor_core.specs.declared.state.NorState.{Ghosts as NorOf}
 use Rattle.table_model.specs.Table.{State}
@@ -15,6 +15,11 @@ abbrev pub stop_by : FsErr → Option Stop
 stop_by DeviceFault = Some Fault
 stop_by (Damaged differ) = Some (Differ differ)
 stop_by _ = None
+
+-- of a page that reads otherwise, what was wanted there and what was found differ
+abbrev pub IsApart : Stop → Type 0
+IsApart Fault = Unit {0}
+IsApart (Differ differ) = differ.wanted ≢ differ.found
 
 -- of calls of a volume that stood at a state, only where the device failed
 abbrev pub StopsFrom : {N : Type 0} {nor : NorOf N} → Volume N nor → Stop → Type 0

@@ -3,7 +3,7 @@ ghost use Rattle.nor_core.specs.Count.{Rose};
 ghost use Rattle.table_model.specs.Ask.{asked};
 ghost use Rattle.file_calls.specs.Replies.{HasRoomFor, shown_by};
 ghost use Rattle.volume_run.specs.Ready.{IsAnsweredFrom, IsOpenedFrom, IsMoved};
-ghost use Rattle.volume_run.specs.Stops.{stop_by, StopsFrom};
+ghost use Rattle.volume_run.specs.Stops.{stop_by, IsApart, StopsFrom};
 
 use nor_core::{Nor, NorState};
 use table_model::{Call, Differ, FsErr};
@@ -28,6 +28,7 @@ pub fn ask<N: Nor>(
     requires room { HasRoomFor (asked call.now) (length lent.old) }
     ensures moved { IsMoved volume.old volume.new }
     ensures cause { result ≡ Err Stop.Fault → Rose (N.faults volume.old.nor.now) (N.faults volume.new.nor.now) }
+    ensures apart { IfErr result IsApart }
     ensures answered { IfOk result (λ told. IsAnsweredFrom volume.old (asked call.now) volume.new (shown_by told lent.new)) }
     ensures stops { IfErr result (StopsFrom volume.old) }
 {
@@ -57,6 +58,7 @@ pub fn open<N: Nor>(
 ) -> Result<Option<u16>, Stop>
     ensures moved { IsMoved volume.old volume.new }
     ensures cause { result ≡ Err Stop.Fault → Rose (N.faults volume.old.nor.now) (N.faults volume.new.nor.now) }
+    ensures apart { IfErr result IsApart }
     ensures answered { IfOk result (IsOpenedFrom volume.old name.now flags volume.new) }
     ensures stops { IfErr result (StopsFrom volume.old) }
 {

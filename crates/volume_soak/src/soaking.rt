@@ -1,7 +1,7 @@
 ghost use Rattle.std.specs.Prelude.{◌≡◌, ◌≤◌, ℕ, length, IfOk, IfErr, Err};
 ghost use Rattle.nor_core.specs.Count.{Rose};
 ghost use Rattle.volume_run.specs.Ready.{IsMoved};
-ghost use Rattle.volume_run.specs.Stops.{StopsFrom};
+ghost use Rattle.volume_run.specs.Stops.{IsApart, StopsFrom};
 ghost use Rattle.volume_soak.specs.Doing.{HasSoakedFrom, IsSummaryFrom};
 
 use crate::draws::draw_of;
@@ -32,6 +32,7 @@ fn turns_from<N: Nor>(
     requires room { 600 ≤ length lent.old }
     ensures moved { IsMoved volume.old volume.new }
     ensures cause { result ≡ Err Stop.Fault → Rose (N.faults volume.old.nor.now) (N.faults volume.new.nor.now) }
+    ensures apart { IfErr result IsApart }
     ensures soaked { IfOk result (HasSoakedFrom volume.old seed turns volume.new) }
     ensures few { IfOk result (λ ok. ok ≤ turns) }
     ensures stops { IfErr result (StopsFrom volume.old) }
@@ -59,6 +60,7 @@ pub fn soak<N: Nor>(
     requires room { 600 ≤ length lent.old }
     ensures moved { IsMoved volume.old volume.new }
     ensures cause { result ≡ Err Stop.Fault → Rose (N.faults volume.old.nor.now) (N.faults volume.new.nor.now) }
+    ensures apart { IfErr result IsApart }
     ensures soaked { IfOk result (IsSummaryFrom volume.old seed turns volume.new) }
     ensures few { IfOk result (λ summary. summary.ok ≤ turns) }
     ensures stops { IfErr result (StopsFrom volume.old) }

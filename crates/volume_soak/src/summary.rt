@@ -2,7 +2,7 @@ ghost use Rattle.std.specs.Prelude.{◌≡◌, ◌*◌, ◌^◌, ◌<◌, ◌≤
 ghost use Rattle.std.specs.Option.{IfSome};
 ghost use Rattle.nor_core.specs.Count.{Rose};
 ghost use Rattle.volume_run.specs.Ready.{IsMoved};
-ghost use Rattle.volume_run.specs.Stops.{StopsFrom};
+ghost use Rattle.volume_run.specs.Stops.{IsApart, StopsFrom};
 ghost use Rattle.volume_soak.specs.Doing.{FindsFrom, HasCountedFrom};
 
 use nor_core::{Nor, NorState};
@@ -17,6 +17,7 @@ const MOST_FILES: u32 = 65_536;
 fn next<N: Nor>(volume: &mut Volume<'_, N>, after: u16) -> Result<Option<Stat>, Stop>
     ensures moved { IsMoved volume.old volume.new }
     ensures cause { result ≡ Err Stop.Fault → Rose (N.faults volume.old.nor.now) (N.faults volume.new.nor.now) }
+    ensures apart { IfErr result IsApart }
     ensures found { IfOk result (FindsFrom volume.old after volume.new) }
     ensures bounds { IfOk result (λ found. IfSome found (λ stat. (stat.id < 2 ^ 16) × (stat.size < 2 ^ 32))) }
     ensures stops { IfErr result (StopsFrom volume.old) }
@@ -34,6 +35,7 @@ fn next<N: Nor>(volume: &mut Volume<'_, N>, after: u16) -> Result<Option<Stat>, 
 pub(crate) fn count_files<N: Nor>(volume: &mut Volume<'_, N>) -> Result<(u32, u64), Stop>
     ensures moved { IsMoved volume.old volume.new }
     ensures cause { result ≡ Err Stop.Fault → Rose (N.faults volume.old.nor.now) (N.faults volume.new.nor.now) }
+    ensures apart { IfErr result IsApart }
     ensures counted { IfOk result (λ count. HasCountedFrom volume.old volume.new count.0 count.1) }
     ensures stops { IfErr result (StopsFrom volume.old) }
 {

@@ -4,7 +4,7 @@ ghost use Rattle.table_model.specs.Ask.{asked};
 ghost use Rattle.table_model.specs.Steps.{is_refusal};
 ghost use Rattle.file_calls.specs.Replies.{shown_by};
 ghost use Rattle.volume_run.specs.Ready.{IsMoved};
-ghost use Rattle.volume_run.specs.Stops.{StopsFrom};
+ghost use Rattle.volume_run.specs.Stops.{IsApart, StopsFrom};
 ghost use Rattle.volume_soak.specs.Asks.{IsDraw, asks_of, bytes_of};
 ghost use Rattle.volume_soak.specs.Turns.{through, on_opened, removal, turn};
 ghost use Rattle.volume_soak.specs.Doing.{DidFrom};
@@ -58,6 +58,7 @@ fn finish<N: Nor>(
     ensures size { length lent.new ≡ length lent.old }
     ensures moved { IsMoved volume.old volume.new }
     ensures cause { result ≡ Err Stop.Fault → Rose (N.faults volume.old.nor.now) (N.faults volume.new.nor.now) }
+    ensures apart { IfErr result IsApart }
     ensures did { IfOk result (DidFrom volume.old (λ g s. on_opened g s (asks_of task) (Some fd)) volume.new) }
     ensures stops { IfErr result (StopsFrom volume.old) }
 {
@@ -81,6 +82,7 @@ fn through<N: Nor>(
     ensures size { length lent.new ≡ length lent.old }
     ensures moved { IsMoved volume.old volume.new }
     ensures cause { result ≡ Err Stop.Fault → Rose (N.faults volume.old.nor.now) (N.faults volume.new.nor.now) }
+    ensures apart { IfErr result IsApart }
     ensures did { IfOk result (DidFrom volume.old (λ g s. through g s name.now flags (asks_of task)) volume.new) }
     ensures stops { IfErr result (StopsFrom volume.old) }
 {
@@ -95,6 +97,7 @@ fn remove<N: Nor>(volume: &mut Volume<'_, N>, name: &[u8], lent: &mut [u8]) -> R
     ensures size { length lent.new ≡ length lent.old }
     ensures moved { IsMoved volume.old volume.new }
     ensures cause { result ≡ Err Stop.Fault → Rose (N.faults volume.old.nor.now) (N.faults volume.new.nor.now) }
+    ensures apart { IfErr result IsApart }
     ensures did { IfOk result (DidFrom volume.old (λ g s. removal g s name.now) volume.new) }
     ensures stops { IfErr result (StopsFrom volume.old) }
 {
@@ -113,6 +116,7 @@ pub(crate) fn turn<N: Nor>(
     ensures size { length lent.new ≡ length lent.old }
     ensures moved { IsMoved volume.old volume.new }
     ensures cause { result ≡ Err Stop.Fault → Rose (N.faults volume.old.nor.now) (N.faults volume.new.nor.now) }
+    ensures apart { IfErr result IsApart }
     ensures did { IfOk result (λ ok. (r : ℕ) → IsDraw r draw → DidFrom volume.old (λ g s. turn g s r) volume.new ok) }
     ensures stops { IfErr result (StopsFrom volume.old) }
 {

@@ -1,10 +1,11 @@
-use Rattle.std.proofs.Common.{length, refl, arith}
+use Rattle.std.proofs.Common.{length, refl, ap, ◌∙◌, arith, Err}
 use Rattle.nor_core.proofs.Cuts.{reads_none, reads_then}
 use Rattle.image_model.specs.Tables.{table_of}
 use Rattle.vol_copy.proofs.Readers.{reader_none}
 use Rattle.tool_parts.proofs.Refusals.{not_both}
 use Rattle.copy_tool.proofs.Rests.{begun_rests}
 use Rattle.copy_tool.proofs.Copies.{check_leaves, begin_stops, begin_kept, copy_leaves, ends_as, done_copies, stopped_copies}
+use Rattle.copy_tool.proofs.Begins.{of_target, not_source, begin_in_copy, copy_among}
 use Rattle.copy_tool.proofs.copying.copy_files.Goals as goal
 
 pub returns-in-Err-clause-reads : goal.returns-in-Err-clause-reads
@@ -17,7 +18,7 @@ pub returns-in-Err-clause-changes : goal.returns-in-Err-clause-changes
 returns-in-Err-clause-changes g c = check_leaves c.begin.ensures.changes
 
 pub returns-in-Err-clause-copies : goal.returns-in-Err-clause-copies
-returns-in-Err-clause-copies g c = λ source_tells tells. begin_stops c.args.from.now.geometry (g.N.NorState.bytes c.args.from.now.nor.now) c.in-Err.ending c.in-Err.ensures.of_target (c.begin.ensures.changes.now tells) (c.in-Err.ensures.stops tells)
+returns-in-Err-clause-copies g c = λ source_tells tells. begin_stops c.args.from.now.geometry (g.N.NorState.bytes c.args.from.now.nor.now) c.in-Err.ending (of_target c.in-Err.ending c.in-Err.ensures.among) (c.begin.ensures.changes.now tells) (c.in-Err.ensures.stops tells)
 
 pub returns-in-Err-clause-idle : goal.returns-in-Err-clause-idle
 returns-in-Err-clause-idle g c = λ source_tells tells all. c.begin.ensures.idle tells all.tidy all.reserve
@@ -94,3 +95,15 @@ returns-in-Ok-clause-kept g c = λ tells ending is. absurd (not_both (c.in_defau
 
 pub returns-in-Err-copy_all-clause-kept : goal.returns-in-Err-copy_all-clause-kept
 returns-in-Err-copy_all-clause-kept g c = λ tells ending is. absurd (not_both (c.in_default.ensures.begun tells).takes is)
+
+pub returns-in-Err-clause-later : goal.returns-in-Err-clause-later
+returns-in-Err-clause-later g c = (of_target c.in-Err.ending c.in-Err.ensures.among).later
+
+pub returns-in-Err-clause-source_cause : goal.returns-in-Err-clause-source_cause
+returns-in-Err-clause-source_cause g c = λ is. not_source c.in-Err.ending c.in-Err.ensures.among is
+
+pub returns-in-Err-clause-among : goal.returns-in-Err-clause-among
+returns-in-Err-clause-among g c = begin_in_copy c.in-Err.ending c.in-Err.ensures.among
+
+pub returns-in-Err-copy_all-clause-among : goal.returns-in-Err-copy_all-clause-among
+returns-in-Err-copy_all-clause-among g c = rw c.copy_ending.ensures.ends (copy_among c.in-Err-copy_all.why (λ d is. c.copy_all.ensures.differs d (c.in-Err-copy_all.is ∙ ap Err is)))

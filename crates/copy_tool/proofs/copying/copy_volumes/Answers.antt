@@ -3,6 +3,7 @@ use Rattle.volume.proofs.Staying.{same_then}
 use Rattle.vol_copy.proofs.Readers.{reader_then}
 use Rattle.copy_tool.specs.Endings.{copied_text}
 use Rattle.copy_tool.proofs.Says.{changes_as, unsurveyed, stopped_copy, copy_said, copy_broken}
+use Rattle.copy_tool.proofs.Begins.{said_among}
 use Rattle.copy_tool.proofs.copying.copy_volumes.Goals as goal
 
 pub returns-in-Err-clause-copies : goal.returns-in-Err-clause-copies
@@ -48,3 +49,6 @@ returns-in-Err-say-clause-same_source g c = reader_then c.survey.ensures.same c.
 
 pub returns-in-Ok-say-clause-same : goal.returns-in-Ok-say-clause-same
 returns-in-Ok-say-clause-same g c = same_then c.copy_files.ensures.same c.say.ensures.same
+
+pub returns-in-Ok-say-clause-among : goal.returns-in-Ok-say-clause-among
+returns-in-Ok-say-clause-among g c = rw c.end_of_copy.ensures.ends (said_among c.in-Ok.damaged)

@@ -2,6 +2,7 @@ use Rattle.std.proofs.Common.{rules}
 use Rattle.nor_core.proofs.Cuts.{reads_then}
 use Rattle.vol_copy.proofs.Readers.{reader_then}
 use Rattle.copy_tool.proofs.Surveys.{mount_survey, count_survey}
+use Rattle.copy_tool.proofs.Begins.{source_among}
 use Rattle.copy_tool.proofs.surveying.survey.Goals as goal
 
 pub returns-in-Err-clause-stops : goal.returns-in-Err-clause-stops
@@ -15,3 +16,6 @@ returns-in-Ok-clause-reads g c = reads_then c.mount.ensures.looks c.count_damage
 
 pub returns-in-Ok-clause-same : goal.returns-in-Ok-clause-same
 returns-in-Ok-clause-same g c = reader_then c.mount.ensures.same c.count_damaged.ensures.same
+
+pub returns-in-Err-clause-among : goal.returns-in-Err-clause-among
+returns-in-Err-clause-among g c = rw c.source_ending.ensures.ends (source_among c.in-Err.why)

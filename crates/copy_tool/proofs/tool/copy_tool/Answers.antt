@@ -26,3 +26,6 @@ pub returns-in-Ok-clause-does : goal.returns-in-Ok-clause-does
 returns-in-Ok-clause-does g c =
     let here = rw (c.side_of.ensures, c.side_of-2.ensures) at c.in-Ok.ensures.planned in
     λ plan planned. rw (one_plan planned here) c.copy_on.ensures.does
+
+pub returns-in-Ok-clause-ends : goal.returns-in-Ok-clause-ends
+returns-in-Ok-clause-ends g c = λ plan planned. c.copy_on.ensures.ends

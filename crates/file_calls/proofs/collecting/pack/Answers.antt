@@ -12,6 +12,7 @@ returns-in-Ok g c =
       cause = λ is. absurd (cc);
       means = tt;
       cuts = room_cuts c.args.v.now (g.met.N.Nor.sized _) packed.changes;
+      trims = packed.trims;
       ends = λ tells tidy. packed.done tells tidy;
     }
 
@@ -23,6 +24,7 @@ returns-in-Err-Tight g c =
       cause = λ is. absurd (cc);
       means = tt;
       cuts = room_cuts c.args.v.now (g.met.N.Nor.sized _) short.changes;
+      trims = short.trims;
       ends = λ tells tidy. record { stuck = short.tight tells tidy (ap (λ (w : RoomErr). Err w) c.in-Err-Tight.field-0-is); short = λ reserve. short.never_tight tells (view_can c.args.v.now (g.met.N.Nor.sized _) tells tidy reserve) c.in-Err-Tight.field-0-is };
     }
 
@@ -35,5 +37,6 @@ returns-in-Err-Step g c =
       cause = λ fault. failed.cause (ap (λ (w : RoomErr). Err w) (is ∙ ap Step (step_same c.in-Err-Step.why _ fault)));
       means = rw is at failed.differs;
       cuts = room_cuts c.args.v.now (g.met.N.Nor.sized _) failed.changes;
+      trims = failed.trims;
       ends = λ tells tidy. step_fault c.in-Err-Step.why (rw is at (failed.undamaged tells tidy));
     }

@@ -13,6 +13,7 @@ returns-in-Ok g c =
       cause = λ is. absurd (cc);
       means = tt;
       cuts = wider (room_cuts c.args.v.now (g.met.N.Nor.sized _) made.changes) (λ tells image cut need. cut need.tidy);
+      trims = wider made.trims (λ tells image trim need. trim need.tidy);
       ends = λ tells need. made.done tells need.tidy;
     }
 
@@ -25,6 +26,7 @@ returns-in-Err-Tight g c =
       cause = λ fault. absurd (cc);
       means = tt;
       cuts = wider (room_cuts c.args.v.now (g.met.N.Nor.sized _) short.changes) (λ tells image cut need. cut need.tidy);
+      trims = wider short.trims (λ tells image trim need. trim need.tidy);
       ends = λ tells need. (short.tight tells need.tidy (ap (λ (w : RoomErr). Err w) is), λ room. short.never_tight tells (view_can c.args.v.now (g.met.N.Nor.sized _) tells need.tidy need.reserve) room is);
     }
 
@@ -37,5 +39,6 @@ returns-in-Err-Step g c =
       cause = λ fault. failed.cause (ap (λ (w : RoomErr). Err w) (is ∙ ap Step (step_same c.in-Err-Step.why _ fault)));
       means = rw is at failed.differs;
       cuts = wider (room_cuts c.args.v.now (g.met.N.Nor.sized _) failed.changes) (λ tells image cut need. cut need.tidy);
+      trims = wider failed.trims (λ tells image trim need. trim need.tidy);
       ends = λ tells need. step_fault c.in-Err-Step.why (rw is at (failed.undamaged tells need.tidy));
     }

@@ -15,6 +15,7 @@ returns-in-Ok g c =
       cause = λ is. absurd (cc);
       means = tt;
       cuts = wider (room_cuts c.args.v.now (g.met.N.Nor.sized _) made.changes) (λ tells image cut need. cut need.tidy);
+      trims = wider made.trims (λ tells image trim need. trim need.tidy);
       ends = λ tells need. made.done tells need.tidy;
     }
 
@@ -26,6 +27,7 @@ returns-in-Err-Tight g c =
       cause = λ is. absurd (cc);
       means = tt;
       cuts = wider (room_cuts c.args.v.now (g.met.N.Nor.sized _) short.changes) (λ tells image cut need. cut need.tidy);
+      trims = wider short.trims (λ tells image trim need. trim need.tidy);
       ends = λ tells need. absurd (short.never_tight tells (view_can c.args.v.now (g.met.N.Nor.sized _) tells need.tidy need.reserve) need.room c.in-Err-Tight.field-0-is);
     }
 
@@ -39,5 +41,6 @@ returns-in-Err-Step g c =
       cause = λ fault. failed.cause (ap (λ (w : RoomErr). Err w) (is ∙ ap Step (fault_is why (err_same (as_fs_err why) _ fault))));
       means = step_stops why (rw is at failed.differs);
       cuts = wider (room_cuts c.args.v.now (g.met.N.Nor.sized _) failed.changes) (λ tells image cut need. cut need.tidy);
+      trims = wider failed.trims (λ tells image trim need. trim need.tidy);
       ends = λ tells need. ap as_fs_err (step_fault why (rw is at (failed.undamaged tells need.tidy)));
     })

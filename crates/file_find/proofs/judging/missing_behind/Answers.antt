@@ -3,7 +3,7 @@ use Rattle.geometry.specs.Numbers.{head_slots, span_slots}
 use Rattle.image_model.specs.Live.{live_at, own}
 use Rattle.file_find.specs.Judging.{missing_between}
 use Rattle.file_find.proofs.Spans.{part_some, part_none, part_all, slots_some}
-use Rattle.flash_view.proofs.Looking.{looks_then}
+use Rattle.flash_view.proofs.Looking.{looks_then, built_then}
 use Rattle.file_find.proofs.judging.missing_behind.Goals as goal
 
 pub returns-then-is_some-clause-told : goal.returns-then-is_some-clause-told
@@ -23,7 +23,7 @@ loop-k-preserved g c =
     record {
       count = was.count;
       looks = looks_then was.looks looked.looks;
-      work = looked.work ∙ was.work;
+      built = built_then was.looks was.built _ looked.built;
       told = λ tells head.
           let view = c.args.v.now in
           let geo = view.geometry in

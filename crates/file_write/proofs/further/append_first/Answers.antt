@@ -1,9 +1,12 @@
-use Rattle.std.specs.Prelude.{length}
+use Rattle.std.specs.Prelude.{length, ◌<◌}
 use Rattle.table_model.specs.Files.{written}
 use Rattle.flash_view.proofs.Stepped.{fails_as, stepped_then}
 use Rattle.file_write.specs.Appends.{indexing_data}
-use Rattle.file_write.proofs.AfterIndex.{index_starts, index_goes, index_begins, indexed_ends}
+use Rattle.file_write.proofs.AfterIndex.{index_starts, index_goes, index_begins, indexed_ends, further_some}
 use Rattle.file_write.proofs.further.append_first.Goals as goal
+
+pub add_index-requires-clause-some : goal.add_index-requires-clause-some
+add_index-requires-clause-some g c = rw c.index_span-further.ensures (further_some c.args.v.now.geometry c.args.span c.requires.far)
 
 pub returns-in-Err : goal.returns-in-Err
 returns-in-Err g c = λ f.

@@ -1,68 +1,50 @@
-use Rattle.std.proofs.Common.{◌≡◌, ◌-◌, ◌<◌, ◌≤◌, Option, ℕ, None, refl, subst, arith}
-use Rattle.geometry.specs.Numbers.{entries}
-use Rattle.geometry.proofs.Bounds.{few_entries, few_in_block}
-use Rattle.image_model.specs.Live.{live_at}
-use Rattle.flash_view.specs.Walk.{IsNextSlot, NextSlot}
+use Rattle.std.proofs.Common.{◌≡◌, ◌+◌, ◌-◌, ◌/◌, refl, subst, arith}
 use Rattle.flash_view.proofs.Looking.{looks_then}
 use Rattle.flash_view.proofs.Telling.{looked, failed}
-use Rattle.flash_view.specs.Counts.{sort_of_page, more_free}
-use Rattle.free_search.proofs.Slots.{found_number}
-use Rattle.free_search.proofs.Counting.{counting_start, counting_on, words_on, counting_last, total_more, total_free}
+use Rattle.free_search.specs.Counted.{IsCountedTo}
+use Rattle.free_search.proofs.Counting.{counted_start, counted_all}
+use Rattle.free_search.proofs.Scanning.{part_below, part_after}
 use Rattle.free_search.proofs.blocks.count_block.Goals as goal
 
-pub used-init : goal.used-init
-used-init g c = record {
-  looks = c.in_ok-erase_count.ensures.looks;
-  geometry = refl;
-  most = omega arith;
-  few = omega arith;
-  told = λ tells. counting_start c.args.v.now.geometry (g.N.NorState.bytes c.args.v.now.nor.now) c.args.block _ refl refl refl refl (c.in_ok-erase_count.ensures.told tells);
-  words = λ tells i none. absurd (omega (arith, none));
-}
-
-pub with_one-counts-requires : goal.with_one-counts-requires
-with_one-counts-requires g c =
-    let was = c.used.invariant in
-    let inside : (c.used.at ≤ c.in-Some.i) × (c.in-Some.i < entries c.args.v.now.geometry) = rw (was.looks.same.geometry, c.in-Some.is) at c.in_ok-i.ensures.inside in
-    rw c.with_free.ensures (omega (arith, total_free c.used.counts (c.in-Some.i - c.used.at), was.few, inside.0, inside.1, few_entries c.args.v.now.geometry, few_in_block c.args.v.now.geometry))
-
-pub used-preserved : goal.used-preserved
-used-preserved g c =
-    let was = c.used.invariant in
-    let found = c.in_ok-i.ensures in
-    let looked = c.in_ok-sort.ensures in
-    let geometry = c.args.v.now.geometry in
-    let image = g.N.NorState.bytes c.args.v.now.nor.now in
-    let inside : (c.used.at ≤ c.in-Some.i) × (c.in-Some.i < entries geometry) = rw (was.looks.same.geometry, c.in-Some.is) at found.inside in
-    let two = looks_then was.looks found.looks in
+pub parts-init : goal.parts-init
+parts-init g c =
+    let e = c.in_ok-erase_count.ensures in
     record {
-      looks = looks_then two looked.looks;
-      geometry = was.geometry;
-      most = omega (arith, inside.1);
-      few = rw (c.with_one-counts.ensures, c.with_free.ensures) (omega (arith, total_more (more_free c.used.counts (c.in-Some.i - c.used.at)) c.in_ok-sort.sort, total_free c.used.counts (c.in-Some.i - c.used.at), was.few, inside.0));
-      told = λ tells.
-          let next : IsNextSlot geometry image c.args.block c.used.at 0 0xFFFE c.in-Some.i c.in-Some.entry = rw (was.looks.same.geometry, was.looks.reads.bytes, c.in-Some.is) at (found.told (was.looks.reads.told tells)) in
-          let number = found_number geometry image c.args.block c.used.at 0 0xFFFE c.in-Some.i c.in-Some.entry c.entry_page.result inside.1 next c.entry_page.ensures.place in
-          let sort : c.in_ok-sort.sort ≡ sort_of_page (live_at geometry image c.entry_page.result) = rw (two.same.geometry, two.reads.bytes) at (looked.told (two.reads.told tells) (rw (two.same.geometry, two.reads.bytes) number)) in
-          rw (c.with_one-counts.ensures, c.with_free.ensures) (counting_on geometry image c.args.block c.used.at c.in-Some.i c.in-Some.entry c.entry_page.result c.used.counts c.in_ok-sort.sort inside.0 inside.1 next c.entry_page.ensures.place sort (was.told tells));
-      words = λ tells.
-          let next : IsNextSlot geometry image c.args.block c.used.at 0 0xFFFE c.in-Some.i c.in-Some.entry = rw (was.looks.same.geometry, was.looks.reads.bytes, c.in-Some.is) at (found.told (was.looks.reads.told tells)) in
-          words_on geometry image c.args.block c.used.at c.in-Some.i c.in-Some.entry next (was.words tells);
+      looks = looks_then e.looks c.in_ok-has.ensures.looks;
+      most = omega arith;
+      few = omega arith;
+      told = λ tells. counted_start c.args.v.now.geometry (g.N.NorState.bytes c.args.v.now.nor.now) c.args.block _ refl refl refl refl (e.told tells);
     }
 
-pub returns-in_err-sort : goal.returns-in_err-sort
-returns-in_err-sort g c =
-    let was = c.used.invariant.looks in
-    let found = c.in_ok-i.ensures.looks in
-    let sort = c.in_err-sort.ensures in
-    record { looks = failed (looks_then was found) sort.looks sort.cause c.from_residual-in_err-sort.ensures.0 }
+pub count_part-requires-clause-lookup : goal.count_part-requires-clause-lookup
+count_part-requires-clause-lookup g c = rw (c.parts.invariant.looks.same.geometry, c.page-slots.ensures) (part_below c.args.v.now.geometry (g.N.NorState.bytes c.args.v.now.nor.now) c.parts.at (omega (arith, c.parts-test.true, c.entries.ensures.count)))
+
+pub parts-preserved : goal.parts-preserved
+parts-preserved g c =
+    let was = c.parts.invariant in
+    let e = c.in_ok-erase_count.ensures.looks in
+    let m = c.in_ok-has.ensures in
+    let p = c.in_ok-counts.ensures in
+    let geometry = c.args.v.now.geometry in
+    let image = g.N.NorState.bytes c.args.v.now.nor.now in
+    let step : c.parts.at + (c.min-end.result - c.parts.at) ≡ c.min-end.result = omega (arith, part_after geometry image (c.page-slots.result / 2) c.parts.at (omega (arith, c.page-slots.ensures, geometry.valid.page_least)), c.min-end.ensures, c.min.ensures, c.entries-in-parts.ensures.count, c.entries.ensures.count, c.parts-test.true) in
+    record {
+      looks = looks_then was.looks p.looks.only;
+      most = omega (arith, c.min-end.ensures, c.min.ensures, c.entries-in-parts.ensures.count);
+      few = omega (arith, p.total, step);
+      told = λ tells.
+          let magic = rw (e.same.geometry, e.reads.bytes) at (m.told (e.reads.told tells)) in
+          let part = (rw (was.looks.same.geometry, was.looks.reads.bytes) at (p.looks.told (was.looks.reads.told tells))) magic (was.told tells) in
+          subst (λ n. IsCountedTo geometry image c.args.block n c.in_ok-counts.counts) step part;
+    }
 
 pub returns : goal.returns
 returns g c = record {
-  looks = looked (looks_then c.used.invariant.looks c.in_ok-i.ensures.looks) (λ tells.
-      let was = c.used.invariant in
-      let geometry = c.args.v.now.geometry in
-      let image = g.N.NorState.bytes c.args.v.now.nor.now in
-      let none : NextSlot geometry image c.args.block c.used.at 0 0xFFFE None = subst (λ (o : Option (ℕ × ℕ)). NextSlot geometry image c.args.block c.used.at 0 0xFFFE o) c.in_default.is (rw (was.looks.same.geometry, was.looks.reads.bytes) at (c.in_ok-i.ensures.told (was.looks.reads.told tells))) in
-      rw (c.with_free-2.ensures, c.entries.ensures.count) (counting_last geometry image c.args.block c.used.at c.used.counts was.most none (was.words tells) (was.told tells)));
+  looks = looked c.parts.invariant.looks (λ tells.
+      counted_all c.args.v.now.geometry (g.N.NorState.bytes c.args.v.now.nor.now) c.args.block c.parts.at c.parts.counts (omega (arith, c.parts-test.false, c.entries.ensures.count)) c.parts.invariant.most (c.parts.invariant.told tells));
 }
+
+pub returns-in_err-counts : goal.returns-in_err-counts
+returns-in_err-counts g c =
+    let part = c.in_err-counts.ensures.looks in
+    record { looks = failed c.parts.invariant.looks part.only part.cause c.from_residual-in_err-counts.ensures.0 }

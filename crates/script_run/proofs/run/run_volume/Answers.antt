@@ -5,6 +5,7 @@ use Rattle.script_run.proofs.Beginning.{begun_ends, early_ends, early_refused}
 use Rattle.tool_parts.proofs.Refusals.{not_both}
 use Rattle.script_run.proofs.Settling.{works_settled}
 use Rattle.script_run.proofs.Working.{early_images, begun_images}
+use Rattle.script_run.proofs.Among.{begin_in_run}
 use Rattle.script_run.proofs.run.run_volume.Goals as goal
 
 pub returns-in-Err-clause-ends : goal.returns-in-Err-clause-ends
@@ -30,3 +31,9 @@ returns-in-Ok-clause-cause g c = λ is. ⊎_elim
     (λ before. let rose = c.run_script-ending.ensures.ran.cause (ap Some before) in omega (arith, rose, c.begin.ensures.same.faults, c.settle.ensures.same.faults))
     (λ rose. omega (arith, rose, c.begin.ensures.same.faults, c.run_script-ending.ensures.same.faults))
     (c.settle.ensures.cause is)
+
+pub returns-in-Err-clause-among : goal.returns-in-Err-clause-among
+returns-in-Err-clause-among g c = begin_in_run c.in-Err.ending c.in-Err.ensures.among
+
+pub returns-in-Ok-clause-among : goal.returns-in-Ok-clause-among
+returns-in-Ok-clause-among g c = c.settle.ensures.among c.run_script-ending.ensures.among

@@ -3,6 +3,7 @@ use Rattle.tool_parts.specs.declared.ending.Ending.{Ending}
 use Rattle.tool_core.specs.Extracting.{Extracts}
 use Rattle.tool_core.proofs.ExtractEnds.{not_mounted, extract_says, extract_done, extract_stopped, extract_broken}
 use Rattle.flash_view.proofs.Looking.{same_then}
+use Rattle.tool_core.proofs.Among.{mount_in_extract, said_in_extract}
 use Rattle.tool_core.proofs.extracting.extract_view.Goals as goal
 
 pub returns-in-Err-clause-extracts : goal.returns-in-Err-clause-extracts
@@ -65,3 +66,12 @@ returns-in-Err-Damaged-clause-same g c = same_then c.mount.ensures.looks.same c.
 
 pub returns-in-Err-BoardFault-clause-same : goal.returns-in-Err-BoardFault-clause-same
 returns-in-Err-BoardFault-clause-same g c = same_then c.mount.ensures.looks.same c.extract.ensures.same
+
+pub returns-in-Err-clause-among : goal.returns-in-Err-clause-among
+returns-in-Err-clause-among g c = rw c.mount_ending.ensures.ends (mount_in_extract c.in-Err.why)
+
+pub returns-in-Ok-clause-among : goal.returns-in-Ok-clause-among
+returns-in-Ok-clause-among g c = rw c.end_of_list.ensures.ending (said_in_extract c.in-Ok.damaged)
+
+pub returns-in-Err-Damaged-clause-among : goal.returns-in-Err-Damaged-clause-among
+returns-in-Err-Damaged-clause-among g c = let apart = rw c.in-Err-Damaged.field-0-is at c.in-Err-Damaged.ensures.apart in apart

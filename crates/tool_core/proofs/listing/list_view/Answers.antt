@@ -3,6 +3,7 @@ use Rattle.tool_parts.specs.declared.ending.Ending.{Ending}
 use Rattle.tool_core.specs.Listing.{ListsTo}
 use Rattle.tool_core.proofs.ListEnds.{not_mounted, list_done, list_broken}
 use Rattle.flash_view.proofs.Looking.{same_then}
+use Rattle.tool_core.proofs.Among.{mount_in_list, said_in_list}
 use Rattle.tool_core.proofs.listing.list_view.Goals as goal
 
 pub returns-in-Err-clause-lists : goal.returns-in-Err-clause-lists
@@ -23,3 +24,9 @@ returns-in-Ok-clause-same g c = same_then c.mount.ensures.looks.same c.list.ensu
 
 pub returns-in-Err-BoardFault-clause-same : goal.returns-in-Err-BoardFault-clause-same
 returns-in-Err-BoardFault-clause-same g c = same_then c.mount.ensures.looks.same c.list.ensures.same
+
+pub returns-in-Err-clause-among : goal.returns-in-Err-clause-among
+returns-in-Err-clause-among g c = rw c.mount_ending.ensures.ends (mount_in_list c.in-Err.why)
+
+pub returns-in-Ok-clause-among : goal.returns-in-Ok-clause-among
+returns-in-Ok-clause-among g c = rw c.end_of_list.ensures.ending (said_in_list c.in-Ok.damaged)

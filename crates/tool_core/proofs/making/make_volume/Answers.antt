@@ -4,6 +4,7 @@ use Rattle.volume_make.specs.Making.{made_text}
 use Rattle.tool_parts.proofs.Begun.{memory_begun}
 use Rattle.tool_core.proofs.Formatting.{tidy_stops, empty_ready}
 use Rattle.tool_core.proofs.MakeEnds.{makes_none, makes_after, speaks_folder}
+use Rattle.tool_core.proofs.Among.{check_in_make, work_in_make}
 use Rattle.tool_core.proofs.making.make_volume.Goals as goal
 
 pub returns-in-Err-clause-makes : goal.returns-in-Err-clause-makes
@@ -42,3 +43,14 @@ returns-in-Err-Refused-clause-makes g c = λ slots some closed tells files.
     let stops = c.in-Err-Refused.ensures.stops h slots some c.requires.accepted ready in
     let is = c.in-Err-Refused.field-0-is in
     absurd (⊎_elim (λ folder. let bad = sym is ∙ folder in cc) (λ fault. let bad = sym is ∙ fault in cc) stops)
+
+pub returns-in-Err-clause-among : goal.returns-in-Err-clause-among
+returns-in-Err-clause-among g c = check_in_make c.in-Err.ending c.in-Err.ensures.among
+
+pub returns-in-Ok-clause-among : goal.returns-in-Ok-clause-among
+returns-in-Ok-clause-among g c = work_in_make c.finish.result c.finish.ensures.among
+
+pub returns-in-Err-Stopped-Differ-clause-among : goal.returns-in-Err-Stopped-Differ-clause-among
+returns-in-Err-Stopped-Differ-clause-among g c =
+    let apart = rw (c.in-Err-Stopped-Differ.field-0-is, c.in-Err-Stopped-Differ.field-0-0-is) at c.in-Err-Stopped-Differ.ensures.apart in
+    apart

@@ -1,5 +1,6 @@
 use Rattle.std.proofs.Common.{ℕ, length}
 use Rattle.tool_core.proofs.MapSteps.{attaches_ok, attaches_err, attaches_on, attaches_fault}
+use Rattle.tool_core.proofs.Among.{unmapped_among}
 use Rattle.tool_core.proofs.mapping.attach.Goals as goal
 
 pub returns-in-Ok-clause-taken : goal.returns-in-Ok-clause-taken
@@ -13,3 +14,6 @@ returns-in-Err-clause-attaches g c = λ slots. attaches_err slots c.args.id _ c.
 
 pub returns-in-Err-clause-cause : goal.returns-in-Err-clause-cause
 returns-in-Err-clause-cause g c = λ is. attaches_fault _ 0 _ c.in-Err.refusal c.in-Err.is (c.unmapped.ensures.fault cc) c.attach_map_of.ensures
+
+pub returns-in-Err-clause-among : goal.returns-in-Err-clause-among
+returns-in-Err-clause-among g c = rw c.unmapped.ensures.ends (unmapped_among c.args.id c.in-Err.refusal.why)

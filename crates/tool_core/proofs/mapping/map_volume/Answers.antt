@@ -4,6 +4,7 @@ use Rattle.geometry.specs.declared.geometry.Geometry.{Geometry}
 use Rattle.image_model.specs.Tidy.{IsTidy}
 use Rattle.tool_parts.proofs.Begun.{memory_begun}
 use Rattle.tool_core.proofs.MapEnds.{maps_stopped, maps_checked}
+use Rattle.tool_core.proofs.Among.{check_in_map}
 use Rattle.tool_core.proofs.mapping.map_volume.Goals as goal
 
 pub map_checked-requires-clause-free : goal.map_checked-requires-clause-free
@@ -20,3 +21,6 @@ returns-in-Ok-clause-maps g c = λ slots closed. maps_checked c.in-Ok.field-0 c.
 
 pub returns-in-Err-clause-maps : goal.returns-in-Err-clause-maps
 returns-in-Err-clause-maps g c = λ slots closed. maps_stopped c.in-Err.ending c.mount_and_check.ensures.changes c.in-Err.ensures.stops
+
+pub returns-in-Err-clause-among : goal.returns-in-Err-clause-among
+returns-in-Err-clause-among g c = check_in_map c.in-Err.ending c.in-Err.ensures.among

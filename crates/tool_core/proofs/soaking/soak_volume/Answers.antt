@@ -5,6 +5,7 @@ use Rattle.tool_parts.proofs.Begun.{memory_begun}
 use Rattle.tool_core.proofs.Formatting.{tidy_stops, empty_ready}
 use Rattle.tool_core.proofs.FillEnds.{speaks_none, speaks_after}
 use Rattle.tool_core.proofs.SoakEnds.{speaks_soaked}
+use Rattle.tool_parts.proofs.Among.{check_in_work}
 use Rattle.tool_core.proofs.soaking.soak_volume.Goals as goal
 
 pub returns-in-Err-clause-soaks : goal.returns-in-Err-clause-soaks
@@ -33,3 +34,9 @@ returns-in-Err-Differ-clause-soaks g c = λ slots closed tells files.
     let stops = c.in-Err-Differ.ensures.stops h (empty slots) ready in
     let bad = rw c.in-Err-Differ.field-0-is at stops in
     absurd (cc)
+
+pub returns-in-Err-clause-among : goal.returns-in-Err-clause-among
+returns-in-Err-clause-among g c = check_in_work c.in-Err.ending c.in-Err.ensures.among
+
+pub returns-in-Err-Differ-clause-among : goal.returns-in-Err-Differ-clause-among
+returns-in-Err-Differ-clause-among g c = let apart = rw c.in-Err-Differ.field-0-is at c.in-Err-Differ.ensures.apart in apart

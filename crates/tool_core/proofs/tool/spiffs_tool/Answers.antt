@@ -39,3 +39,8 @@ pub returns-in-Ok-clause-untouched : goal.returns-in-Ok-clause-untouched
 returns-in-Ok-clause-untouched g c =
     let here = rw (c.unit.ensures, c.size.ensures, c.measure.ensures) at c.in-Ok.ensures.planned in
     λ none. c.perform.ensures.untouched (none c.in-Ok.command here)
+
+pub returns-in-Ok-clause-ends : goal.returns-in-Ok-clause-ends
+returns-in-Ok-clause-ends g c =
+    let here = rw (c.unit.ensures, c.size.ensures, c.measure.ensures) at c.in-Ok.ensures.planned in
+    λ command planned. rw (one_plan planned here) c.perform.ensures.ends

@@ -1,6 +1,7 @@
 use Rattle.std.proofs.Common.{◌∙◌, ap, inr, rules}
 use Rattle.geometry.specs.Numbers.{write_refusal}
 use Rattle.tool_parts.proofs.Mounted.{mount_stops, mount_changes, check_stops, check_changes, check_idle, was_reported}
+use Rattle.tool_parts.proofs.Among.{mount_among, check_among}
 use Rattle.tool_parts.proofs.mounting.mount_and_check.Goals as goal
 
 pub returns-in-Err-clause-changes : goal.returns-in-Err-clause-changes
@@ -29,3 +30,11 @@ returns-in-Ok-clause-idle g c = check_idle c.mount.new.self.geometry c.mount.ens
 
 pub returns-in-Err-check-clause-idle : goal.returns-in-Err-check-clause-idle
 returns-in-Err-check-clause-idle g c = check_idle c.mount.new.self.geometry c.mount.ensures.same.geometry c.mount.ensures.looks c.check.ensures.checks.idle
+
+pub returns-in-Err-clause-among : goal.returns-in-Err-clause-among
+returns-in-Err-clause-among g c = rw c.mount_ending.ensures.ends (mount_among c.in-Err.why)
+
+pub returns-in-Err-check-clause-among : goal.returns-in-Err-check-clause-among
+returns-in-Err-check-clause-among g c =
+    let writable = c.in-Err-check.ensures.checks.writable (ap write_refusal c.mount.ensures.same.geometry ∙ c.requires) in
+    rw c.check_ending.ensures.ends (check_among c.in-Err-check.why writable c.in-Err-check.ensures.checks.apart)

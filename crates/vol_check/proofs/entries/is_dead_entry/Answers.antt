@@ -8,16 +8,20 @@ on_true : (b : Bool) {P : Type 0} → P → OnTrue b P
 on_true true h = h
 on_true false h = tt
 
-pub returns-in_ok-is_alive-clause-looks : goal.returns-in_ok-is_alive-clause-looks
-returns-in_ok-is_alive-clause-looks g c = looks_then (looks_then c.in_ok-has_magic.ensures.looks c.in_ok-is_taken.ensures.looks) c.in_ok-is_alive.ensures.looks
+pub returns-in_ok-is_alive_by-clause-looks : goal.returns-in_ok-is_alive_by-clause-looks
+returns-in_ok-is_alive_by-clause-looks g c = looks_then (looks_then (looks_then c.in_ok-has_magic.ensures.looks c.in_ok-entry.ensures.looks) c.in_ok-is_taken.ensures.looks) c.in_ok-is_alive_by.ensures.looks
 
 pub returns-else-branch-clause-looks : goal.returns-else-branch-clause-looks
-returns-else-branch-clause-looks g c = looks_then c.in_ok-has_magic.ensures.looks c.in_ok-is_taken.ensures.looks
+returns-else-branch-clause-looks g c = looks_then (looks_then c.in_ok-has_magic.ensures.looks c.in_ok-entry.ensures.looks) c.in_ok-is_taken.ensures.looks
 
-pub returns-in_ok-is_alive-clause-told : goal.returns-in_ok-is_alive-clause-told
-returns-in_ok-is_alive-clause-told g c = λ tells.
+pub returns-in_ok-is_alive_by-clause-told : goal.returns-in_ok-is_alive_by-clause-told
+returns-in_ok-is_alive_by-clause-told g c = λ tells.
     let magic = c.in_ok-has_magic.ensures in
+    let read = c.in_ok-entry.ensures in
     let taken = c.in_ok-is_taken.ensures in
-    let looks = looks_then magic.looks taken.looks in
-    dead_by _ _ _ _ _ (rw c.if-not-is_entry_page.false at c.is_entry_page.ensures.entry) (cc (magic.told tells, c.block_of.ensures.block, c.if-not-branch.false)) (rw (magic.looks.same.geometry, magic.looks.reads.bytes) at (taken.told (magic.looks.reads.told tells))) c.if-branch.true
-    (rw (looks.same.geometry, looks.reads.bytes) at (c.in_ok-is_alive.ensures.told (looks.reads.told tells)))
+    let before = looks_then magic.looks read.looks in
+    let looks = looks_then before taken.looks in
+    let named = rw (magic.looks.same.geometry, magic.looks.reads.bytes) at (read.told (magic.looks.reads.told tells)) in
+    let alive = rw (looks.same.geometry, looks.reads.bytes) at (c.in_ok-is_alive_by.ensures.told (looks.reads.told tells)) in
+    dead_by _ _ _ _ _ (rw c.if-not-is_entry_page.false at c.is_entry_page.ensures.entry) (cc (magic.told tells, c.block_of.ensures.block, c.if-not-branch.false)) ((rw (before.same.geometry, before.reads.bytes) at (taken.told (before.reads.told tells))) named) c.if-branch.true
+    (λ has. alive has named)

@@ -16,6 +16,7 @@ returns-in-Ok g c =
       cause = λ is. absurd (cc);
       means = tt;
       cuts = wider made.changes (λ tells image cut tidy. (cut tidy).keeps);
+      trims = made.trims;
       ends = λ tells tidy. let now = made.done tells tidy in record { tidy = now.tidy; table = now.table; swept = now.swept; needed = none_more _ _ now.swept.through (reserve_ready _) now.needed; stopped = inl now.ready.reserve; mended = λ can. now.ready.reserve };
     }
 
@@ -28,6 +29,7 @@ returns-in-Err-Tight g c =
       cause = λ is. absurd (cc);
       means = tt;
       cuts = wider short.changes (λ tells image cut tidy. (cut tidy).keeps);
+      trims = short.trims;
       ends = λ tells tidy. let now = short.tight tells tidy (ap (λ (w : RoomErr). Err w) is) in record { tidy = now.tidy; table = now.table; swept = now.swept; needed = none_more _ _ now.swept.through (reserve_ready _) now.needed; stopped = inr now.none; mended = λ can. absurd (short.mended tells can refl refl is) };
     }
 
@@ -41,5 +43,6 @@ returns-in-Err-Step g c =
       cause = λ fault. failed.cause (ap (λ (w : RoomErr). Err w) (is ∙ ap Step (stop_fault why (same_err (as_check_err why) _ fault))));
       means = stop_means why (rw is at failed.differs);
       cuts = wider failed.changes (λ tells image cut tidy. (cut tidy).keeps);
+      trims = failed.trims;
       ends = λ tells tidy. ap as_check_err (step_fault why (rw is at (failed.undamaged tells tidy)));
     })

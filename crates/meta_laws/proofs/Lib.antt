@@ -1,0 +1,3 @@
+mod Numbers
+mod OtherMeta
+pub mod Fewer

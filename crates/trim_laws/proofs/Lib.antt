@@ -1,0 +1,3 @@
+pub mod Trims
+pub mod Pages
+pub mod Empty

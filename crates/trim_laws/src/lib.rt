@@ -1,0 +1,4 @@
+//! Laws of header pages that name no data page behind the last one of their file.
+#![tactic(auto)]
+
+pub mod trimming;
