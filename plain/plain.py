@@ -41,7 +41,7 @@ PACKAGES = [
     Package("spiffs", ["spiffs"]),
     Package("script_rows", ["script_rows"]),
     Package("image_explain", ["image_explain"]),
-    Package("plain_tests", ["base_tests", "engine_tests", "firmware_example"]),
+    Package("plain_tests", ["host_tests", "firmware_example"]),
 ]
 
 # Crates of a registry.
