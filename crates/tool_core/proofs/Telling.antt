@@ -1,13 +1,12 @@
 -- What `make` leaves tells its number of meta bytes.
-use Rattle.std.proofs.Common.{◌≡◌, ℕ, suc, ◌+◌, ◌<◌, List, [], ◌∷◌, length, Some, refl, sym, ap, subst, arith}
-use Rattle.std.specs.Prelude.{slice_index_or}
+use Rattle.std.proofs.Common.{◌≡◌, ℕ, zero, suc, ◌+◌, ◌<◌, List, [], ◌∷◌, length, Some, refl, sym, ap, subst, arith}
 use Rattle.std.proofs.lemmas.Bool.{eq-eqb, ne_eqb}
 use Rattle.geometry.specs.declared.geometry.Geometry.{Geometry}
 use Rattle.table_model.specs.Table.{File, file_of}
-use Rattle.folder_core.specs.Files.{Entry, File as FolderFile, entry_of, entries_of, size_at}
+use Rattle.folder_core.specs.Files.{File as FolderFile, entries_of, size_at}
 use Rattle.image_model.specs.Tables.{table_of}
 use Rattle.image_make.specs.Tables.{file_as, numbered, folder_table}
-use Rattle.meta_laws.specs.Other.{HasPlainFile, TellsMeta}
+use Rattle.meta_laws.specs.Other.{HasPlainFile}
 use Rattle.tool_core.specs.Telling.{HasSome, MadeTells}
 
 -- a file with bytes of a list that is numbered from that id on
@@ -32,7 +31,7 @@ one_more g id f files is = record {
 plain_there : (g : Geometry) (id at : ℕ) (files : List FolderFile) → 0 < size_at (entries_of files) at → IsPlainThere g id files
 unfolding file_of numbered
 plain_there g id at [] some = absurd (omega (arith, some))
-plain_there g id 0 (f ∷ files) some = record {
+plain_there g id zero (f ∷ files) some = record {
   behind = 0;
   from = f;
   there = let e : id ≡ id + 0 = omega arith in rw (eq-eqb id (id + 0) e) (ap (λ (n : ℕ). Some (file_as g n f)) e);
