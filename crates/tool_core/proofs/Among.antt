@@ -121,8 +121,8 @@ module _ {N : Type 0} {nor : NorOf N} {old new : Volume N nor} {last : Result (U
 -- ---- a make
 
 -- a folder of which no image can be made
-pub stops_among : {X : Type 0} {folder : FolderOf X} {g : Geometry} {before after : X} (ending : Ending) → StopsMake folder g before after ending → MayEndMake ending
-stops_among ending stops = ⊎_elim
+pub stops_among : {X : Type 0} (folder : FolderOf X) (g : Geometry) (before after : X) (ending : Ending) → StopsMake folder g before after ending → MayEndMake ending
+stops_among folder g before after ending stops = ⊎_elim
     (λ fault. subst (λ (e : Ending). MayEndMake e) (sym fault.0) (tt {0}))
     (λ refused. subst (λ (e : Ending). MayEndMake e) (sym refused.2) (refused_among refused.0))
     stops
