@@ -3,7 +3,7 @@ use Rattle.std.proofs.Common.{◌≡◌, ℕ, ◌+◌, ◌-◌, ◌*◌, ◌/◌
 use Rattle.std.specs.Prelude.{nat_lt}
 use Rattle.std.proofs.Math.Nat.{mul-le-mul_right, div-mul-le_self}
 use Rattle.std.proofs.lemmas.Nat.{le-div}
-use Rattle.std.proofs.lemmas.Bool.{cases_Bool, leb-true, leb-false, le-leb, lt-leb, ltb-true, ltb-false, lt-ltb}
+use Rattle.std.proofs.lemmas.Bool.{cases_Bool, leb-true, leb-false, le-leb, lt-leb, ltb-true, ltb-false, lt-ltb, le-ltb}
 use Rattle.geometry.specs.declared.geometry.Geometry.{Geometry}
 use Rattle.geometry.specs.Rules.{pages_in, entries_in}
 use Rattle.geometry.specs.Numbers.{ceil, per_block, entries, page_count, write_refusal}
@@ -16,7 +16,7 @@ use Rattle.image_make.specs.Refusals.{first_bad, index_sum, data_sum, fits, make
 use Rattle.folder_size.specs.declared.told.Shape.{Shape}
 use Rattle.folder_size.specs.declared.told.Need.{Need}
 use Rattle.folder_size.specs.declared.told.Need.TheVariants.{Blocks, BadName, TooMany, NoVolume}
-use Rattle.folder_size.specs.Needs.{HasShape, written_refusal, IsLeast, IsBadName, IsNever, IsNeed, blocks_needed, most_blocks, need_by}
+use Rattle.folder_size.specs.Needs.{HasShape, written_refusal, IsLeast, IsBadName, IsNever, IsNeed, blocks_needed, most_blocks, need_by, need_for}
 use Rattle.folder_size.proofs.Numbers.{IsVolumeOf, kept, not_refused, per_block-is, entries-is, few_usable}
 use Rattle.folder_size.proofs.Shapes.{index-same, data-same, entries-same, needs-same, Tells, tells, by_names, with_room, without_room}
 
@@ -56,6 +56,15 @@ unfolding need_by
 data_over g index pages many =
     let over = too_many pages (entries g) (blocks_needed g index pages) (entry_left g) many (omega arith) in
     rw (lt-ltb (most_blocks g) (blocks_needed g index pages) (omega (arith, over))) refl
+
+-- by how many are needed, and how many there can be
+pub over_most : (g : Geometry) (index pages n most : ℕ) → n ≡ blocks_needed g index pages → most ≡ most_blocks g → most < n → TooMany index pages ≡ need_by g index pages
+unfolding need_by
+over_most g index pages n most n_is most_is less = rw (lt-ltb (most_blocks g) (blocks_needed g index pages) (omega (arith, n_is, most_is, less))) refl
+
+pub in_most : (g : Geometry) (index pages n most : ℕ) → n ≡ blocks_needed g index pages → most ≡ most_blocks g → n ≤ most → Blocks n ≡ need_by g index pages
+unfolding need_by
+in_most g index pages n most n_is most_is less = rw (le-ltb (most_blocks g) (blocks_needed g index pages) (omega (arith, n_is, most_is, less))) (ap (λ (k : ℕ). Blocks k) n_is)
 
 -- ---- a volume of a shape on which nothing stands against the names
 
@@ -120,19 +129,24 @@ module _ (h : Geometry) (shape : Shape) (files : List Entry) (hs : HasShape h sh
 
 module _ (h : Geometry) (shape : Shape) (files : List Entry) (hs : HasShape h shape) (blocks : h.blocks ≡ 4) (four : written_refusal shape 4 ≡ None) where
   -- no refusal: four are enough
-  pub four_enough : None ≡ make_refusal h files → IsLeast shape files 4
+  four_enough : None ≡ make_refusal h files → IsLeast shape files 4
   four_enough is =
       let w = subst (Tells h files (first_bad files)) (sym is) (tells h files) in
       let most = leb-true (blocks_needed h (index_sum h files) (data_sum h files)) h.blocks w.1 in
       least h shape files hs w.0 4 (omega (arith, most, blocks, four_needed h (index_sum h files) (data_sum h files))) four
 
   -- a bad name
-  pub bad_name : (at : ℕ) → Some (BadNames at) ≡ make_refusal h files → IsBadName shape files at
+  bad_name : (at : ℕ) → Some (BadNames at) ≡ make_refusal h files → IsBadName shape files at
   bad_name at is g gs = by_names g files at (subst (Tells h files (first_bad files)) (sym is) (tells h files))
 
   -- want of room
-  pub more_needed : (index pages : ℕ) (need : Need) → Some (Full index pages) ≡ make_refusal h files → need ≡ need_by h index pages → IsNeed shape files need
-  more_needed index pages need is told =
+  more_needed : (index pages : ℕ) → Some (Full index pages) ≡ make_refusal h files → IsNeed shape files (need_by h index pages)
+  more_needed index pages is =
       let w = subst (Tells h files (first_bad files)) (sym is) (tells h files) in
-      let at : need ≡ need_by h (index_sum h files) (data_sum h files) = told ∙ ap (λ (n : ℕ). need_by h n pages) w.2 ∙ ap (λ (n : ℕ). need_by h (index_sum h files) n) w.3 in
+      let at : need_by h index pages ≡ need_by h (index_sum h files) (data_sum h files) = ap (λ (n : ℕ). need_by h n pages) w.2 ∙ ap (λ (n : ℕ). need_by h (index_sum h files) n) w.3 in
       subst (IsNeed shape files) (sym at) (by_need h shape files hs w.0 four)
+
+  pub needs : (why : Option Refusal) → why ≡ make_refusal h files → IsNeed shape files (need_for h why)
+  needs None is = four_enough is
+  needs (Some (BadNames at)) is = bad_name at is
+  needs (Some (Full index pages)) is = more_needed index pages is

@@ -56,7 +56,7 @@ Tells g files bad (Some (Full index pages)) = (bad ≡ None) × (fits g files �
 
 by_room : (g : Geometry) (files : List Entry) (room : Bool) → fits g files ≡ room → Tells g files None (if room then None else Some (Full (index_sum g files) (data_sum g files)))
 by_room g files true is = (refl, is)
-by_room g files false is = (refl, (is, (refl, refl)))
+by_room g files false is = (refl, is, refl, refl)
 
 by_first : (g : Geometry) (files : List Entry) (bad : Option ℕ) → Tells g files bad (refusal_by g files bad)
 by_first g files (Some at) = refl

@@ -7,6 +7,7 @@ use Rattle.geometry.specs.declared.error.GeoErr.TheVariants.{TooManyUsable, TooF
 use Rattle.geometry.specs.Rules.{entries_in}
 use Rattle.geometry.specs.Numbers.{ceil, per_block, entries, refusal, write_refusal}
 use Rattle.folder_core.specs.Files.{Entry}
+use Rattle.image_make.specs.declared.refusing.Refusal.{Refusal}
 use Rattle.image_make.specs.declared.refusing.Refusal.TheVariants.{BadNames, Full}
 use Rattle.image_make.specs.Refusals.{index_sum, data_sum, make_refusal}
 use Rattle.folder_size.specs.declared.told.Shape.{Shape}
@@ -69,3 +70,9 @@ most_blocks g = min (65535 / per_block g) (32766 / entries g)
 -- what is told of so many pages
 unfoldable pub need_by : Geometry → (index pages : ℕ) → Need
 need_by g index pages = if nat_lt (most_blocks g) (blocks_needed g index pages) then TooMany index pages else Blocks (blocks_needed g index pages)
+
+-- what is told where the smallest volume of a shape refuses the files so
+abbrev pub need_for : Geometry → Option Refusal → Need
+need_for g None = Blocks 4
+need_for g (Some (BadNames at)) = BadName at
+need_for g (Some (Full index pages)) = need_by g index pages

@@ -1,8 +1,8 @@
-ghost use Rattle.std.specs.Prelude.{◌≡◌, ◌+◌, ◌/◌, ◌≤◌, min, IfOk, IfErr, OnOk, OnErr, None, Some};
-ghost use Rattle.geometry.specs.Numbers.{ceil, per_block, entries, write_refusal, IsOf};
+ghost use Rattle.std.specs.Prelude.{◌≡◌, ◌+◌, ◌≤◌, IfOk, IfErr, OnOk, OnErr, None, Some};
+ghost use Rattle.geometry.specs.Numbers.{ceil, entries, IsOf};
 ghost use Rattle.nor_core.specs.Count.{Rose};
 ghost use Rattle.folder_core.specs.Puts.{Kept};
-ghost use Rattle.folder_size.specs.Needs.{written_refusal, need_by, IsNeed};
+ghost use Rattle.folder_size.specs.Needs.{written_refusal, need_by, need_for, IsNeed, most_blocks as the_most};
 
 use crate::told::{Need, Shape};
 use folder_core::{Folder, FolderState};
@@ -37,7 +37,7 @@ fn smallest(shape: Shape) -> Result<Geometry, GeoErr>
 // The most blocks that a volume of these pages and blocks has which can be written.
 #[tactic(auto, using(geometry::proofs::Bounds::entry_left, geometry::proofs::Bounds::some_pages))]
 fn most_blocks(g: &Geometry) -> u32
-    ensures { result ≡ min (65535 / per_block g.now) (32766 / entries g.now) }
+    ensures { result ≡ the_most g.now }
 {
     (65_535 / g.per_block()).min(MOST_USABLE / g.entries())
 }
@@ -67,6 +67,17 @@ fn need_of(g: &Geometry, index: u128, data_pages: u128) -> Need
     Need::Blocks(blocks)
 }
 
+// How many blocks are needed where the smallest volume is refused so.
+fn need_by_refusal(g: &Geometry, why: Option<Refusal>) -> Need
+    ensures { result ≡ need_for g.now why }
+{
+    match why {
+        None => Need::Blocks(FEWEST),
+        Some(Refusal::BadNames { at }) => Need::BadName { at },
+        Some(Refusal::Full { index, data_pages }) => need_of(g, index, data_pages),
+    }
+}
+
 /// How many blocks a volume of a shape needs at least, so that an image of the folder's files can be made on it. No byte of a file is read.
 pub fn least_blocks<F: Folder>(shape: Shape, folder: &mut F) -> Result<Need, Failed>
     ensures need { IfOk result (IsNeed shape (F.entries folder.old)) }
@@ -77,9 +88,6 @@ pub fn least_blocks<F: Folder>(shape: Shape, folder: &mut F) -> Result<Need, Fai
         Ok(g) => g,
         Err(why) => return Ok(Need::NoVolume(why)),
     };
-    match refusal_of(&g, folder)? {
-        None => Ok(Need::Blocks(FEWEST)),
-        Some(Refusal::BadNames { at }) => Ok(Need::BadName { at }),
-        Some(Refusal::Full { index, data_pages }) => Ok(need_of(&g, index, data_pages)),
-    }
+    let why = refusal_of(&g, folder)?;
+    Ok(need_by_refusal(&g, why))
 }
