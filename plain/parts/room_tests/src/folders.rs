@@ -49,7 +49,7 @@ fn is_as_tried(shape: Shape, folder: &mut MemFolder) -> Need {
 #[test]
 fn the_least_number_is_that_of_trying_each() {
     for page in [128, 256, 512, 4096] {
-        for pages in [8, 16, 32, 64] {
+        for pages in [8, 16, 64] {
             for meta in [0, 4, 64] {
                 let shape = Shape {
                     page,
@@ -57,7 +57,7 @@ fn the_least_number_is_that_of_trying_each() {
                     phys: page * pages,
                     meta,
                 };
-                for count in [0, 1, 2, 13, 14, 15, 40, 200] {
+                for count in [0, 1, 2, 14, 15, 60] {
                     let sizes: Vec<usize> = (0..count).map(|i| i * 977 % 6_000).collect();
                     is_as_tried(shape, &mut folder_of(&sizes));
                 }
