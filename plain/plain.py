@@ -38,7 +38,8 @@ class Package:
 
 PACKAGES = [
     Package("liverymenhir", ["volume", "wear_scrub"], exported=["volume", "nor_core"], no_std=True),
-    Package("spiffs", ["spiffs"]),
+    # (the last four are for what is to come)
+    Package("spiffs", ["spiffs", "tree_paths", "front_words", "file_room", "folder_size"]),
     Package("script_rows", ["script_rows"]),
     Package("image_explain", ["image_explain"]),
     Package("plain_tests", ["host_tests", "firmware_example"]),

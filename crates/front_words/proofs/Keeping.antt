@@ -1,0 +1,157 @@
+-- The numbers that a line gives are those of its volume.
+use Rattle.std.proofs.Common.{◌≡◌, ℕ, ◌-◌, ◌*◌, ◌/◌, ◌%◌, ◌<◌, List, [], ◌∷◌, Bool, true, false, cond, eqb, leb, refl, sym, ap, ◌∙◌, arith, ⊎_elim, subst, Option, Some, None, Result, Ok, Err}
+use Rattle.std.specs.Prelude.{filter, unwrap_or, option_map, is_none, not, ◌&&◌, ◌||◌}
+use Rattle.std.proofs.lemmas.Bool.{false≢true, cases_Bool}
+use Rattle.std.proofs.lemmas.Grind.{common_steps}
+use Rattle.geometry.specs.declared.magic.MagicKind.{MagicKind}
+use Rattle.geometry.specs.declared.magic.MagicKind.TheVariants.{Plain, Length}
+use Rattle.front_words.specs.declared.asked.Asked.{Asked}
+use Rattle.front_words.specs.declared.settling.Candidate.{Candidate}
+use Rattle.front_words.specs.declared.settling.Volume.{Volume}
+use Rattle.front_words.specs.declared.settling.Unsettled.{Unsettled}
+use Rattle.front_words.specs.declared.settling.Unsettled.TheVariants.{NoSize, Uneven, Several, AnyMeta}
+use Rattle.front_words.specs.Asking.{changes}
+use Rattle.front_words.specs.Settling.{first_of, preset_of, known_page, known_block, known_meta, known_magic, start_of, bytes_of, sized, fits, same_magic, fits_magic, agrees, found_volume, with_meta, as_good, chosen, agreeing, settled_by, settled, needs_found, IsAsGiven, KeepsNumbers, meta_by}
+
+both : (a b : Bool) → (a && b) ≡ true → (a ≡ true) × (b ≡ true)
+both true true h = (refl, refl)
+both true false h = absurd (false≢true h)
+both false b h = absurd (false≢true h)
+
+-- what is known is what is given
+given_first : {A : Type 0} (o other : Option A) (x : A) → first_of o other ≡ Some x → IsAsGiven o x
+given_first None other x h = tt
+given_first (Some a) other x h = cc
+
+given_none : {A : Type 0} (o other : Option A) (x : A) → first_of o other ≡ None → IsAsGiven o x
+given_none None other x h = tt
+given_none (Some a) other x h = cc
+
+given_or : (o : Option ℕ) (d : ℕ) → IsAsGiven o (unwrap_or o d)
+given_or None d = tt
+given_or (Some a) d = refl
+
+given_fit : (o : Option ℕ) (n : ℕ) → fits o n ≡ true → IsAsGiven o n
+given_fit None n h = tt
+given_fit (Some a) n h = grind (arith, common_steps)
+
+given_first_fit : (o other : Option ℕ) (n : ℕ) → fits (first_of o other) n ≡ true → IsAsGiven o n
+given_first_fit None other n h = tt
+given_first_fit (Some a) other n h = given_fit (Some a) n h
+
+given_magic : (o other : Option MagicKind) (k : MagicKind) → fits_magic (first_of o other) k ≡ true → IsAsGiven o k
+given_magic None other k h = tt
+given_magic (Some Plain) other Plain h = refl
+given_magic (Some Length) other Length h = refl
+given_magic (Some Plain) other Length h = absurd (false≢true h)
+given_magic (Some Length) other Plain h = absurd (false≢true h)
+
+-- a volume by its size
+record IsSized (asked : Asked) (bytes page block meta : ℕ) (magic : MagicKind) (v : Volume) : Type 0 where
+  page_is : page ≡ v.page
+  block_is : block ≡ v.block
+  meta_is : meta ≡ v.meta
+  magic_is : magic ≡ v.magic
+  at_is : start_of asked ≡ v.at
+  bytes_are : bytes ≡ v.block * v.blocks
+
+sized_is : (asked : Asked) (bytes page block meta : ℕ) (magic : MagicKind) (v : Volume) → sized asked bytes page block meta magic ≡ Ok v → IsSized asked bytes page block meta magic v
+sized_is asked bytes page block meta magic v = first (eqb bytes 0 || not (leb bytes 4294967295)) (eqb block 0 || not (eqb (bytes % block) 0)) refl
+  where
+    made : Volume
+    made = record { at = start_of asked; page = page; block = block; blocks = bytes / block; meta = meta; magic = magic }
+
+    first : (a b : Bool) → (eqb block 0 || not (eqb (bytes % block) 0)) ≡ b → cond a (Err NoSize) (cond b (Err (Uneven bytes block)) (Ok made)) ≡ Ok v → IsSized asked bytes page block meta magic v
+    first true b e h = cc
+    first false true e h = cc
+    first false false e h =
+        let is : made ≡ v = cc in
+        let some : 0 < block = grind (arith, common_steps) in
+        let even : bytes % block ≡ 0 = grind (arith, common_steps) in
+        let whole : bytes ≡ block * (bytes / block) = omega arith in
+        subst (λ (u : Volume). IsSized asked bytes page block meta magic u) is (record { page_is = refl; block_is = refl; meta_is = refl; magic_is = refl; at_is = refl; bytes_are = whole })
+
+as_is : {A : Type 0} (o : Option A) (x y : A) → x ≡ y → IsAsGiven o x → IsAsGiven o y
+as_is o x y same h = subst (λ z. IsAsGiven o z) same h
+
+sized_keeps : (asked : Asked) (length page block meta : ℕ) (magic : MagicKind) (v : Volume) → known_page asked ≡ Some page → known_block asked ≡ Some block → known_meta asked ≡ Some meta → known_magic asked ≡ Some magic → sized asked (bytes_of asked length) page block meta magic ≡ Ok v → KeepsNumbers asked v
+sized_keeps asked length page block meta magic v p b m k h =
+    let is = sized_is asked (bytes_of asked length) page block meta magic v h in
+    record {
+      page = as_is asked.page page v.page is.page_is (given_first asked.page _ page p);
+      block = as_is asked.block block v.block is.block_is (given_first asked.block _ block b);
+      meta = as_is asked.meta meta v.meta is.meta_is (given_first asked.meta _ meta m);
+      magic = as_is asked.magic magic v.magic is.magic_is (given_first asked.magic _ magic k);
+      at = as_is asked.at (start_of asked) v.at is.at_is (given_or asked.at 0);
+      size = as_is asked.size (bytes_of asked length) (v.block * v.blocks) is.bytes_are (given_or asked.size (length - start_of asked));
+    }
+
+-- the first that passes a filter passes
+filter_first : (p : Candidate → Bool) (xs : List Candidate) (c : Candidate) (cs : List Candidate) → filter p xs ≡ c ∷ cs → p c ≡ true
+filter_first p [] c cs h = cc
+filter_first p (x ∷ xs) c cs h = ⊎_elim
+    (λ (yes : p x ≡ true). let same : x ≡ c = head (rw yes at h) in subst (λ (y : Candidate). p y ≡ true) same yes)
+    (λ (no : p x ≡ false). filter_first p xs c cs (rw no at h))
+    (cases_Bool (p x))
+  where
+    head : x ∷ filter p xs ≡ c ∷ cs → x ≡ c
+    head h = cc
+
+found_keeps : (asked : Asked) (c : Candidate) (meta : ℕ) → agrees asked c ≡ true → IsAsGiven asked.meta meta → KeepsNumbers asked (found_volume c meta)
+found_keeps asked c meta fine given =
+    let at = both (fits asked.at c.at) (fits (known_page asked) c.page && (fits (known_block asked) c.block && (fits asked.size (c.block * c.blocks) && fits_magic (known_magic asked) c.magic))) fine in
+    let page = both (fits (known_page asked) c.page) (fits (known_block asked) c.block && (fits asked.size (c.block * c.blocks) && fits_magic (known_magic asked) c.magic)) at.1 in
+    let block = both (fits (known_block asked) c.block) (fits asked.size (c.block * c.blocks) && fits_magic (known_magic asked) c.magic) page.1 in
+    let size = both (fits asked.size (c.block * c.blocks)) (fits_magic (known_magic asked) c.magic) block.1 in
+    record {
+      page = given_first_fit asked.page _ c.page page.0;
+      block = given_first_fit asked.block _ c.block block.0;
+      meta = given;
+      magic = given_magic asked.magic _ c.magic size.1;
+      at = given_fit asked.at c.at at.0;
+      size = given_fit asked.size (c.block * c.blocks) size.0;
+    }
+
+meta_keeps : (asked : Asked) (c : Candidate) (known : Option ℕ) (v : Volume) → known_meta asked ≡ known → agrees asked c ≡ true → with_meta asked c known ≡ Ok v → KeepsNumbers asked v
+meta_keeps asked c (Some meta) v is fine h =
+    let same : found_volume c meta ≡ v = cc in
+    subst (λ (u : Volume). KeepsNumbers asked u) same (found_keeps asked c meta fine (given_first asked.meta _ meta is))
+meta_keeps asked c None v is fine h = go (changes asked.word && not (eqb c.first_meta c.last_meta)) h
+  where
+    go : (b : Bool) → cond b (Err AnyMeta) (Ok (found_volume c c.first_meta)) ≡ Ok v → KeepsNumbers asked v
+    go true h = cc
+    go false h =
+        let same : found_volume c c.first_meta ≡ v = cc in
+        subst (λ (u : Volume). KeepsNumbers asked u) same (found_keeps asked c c.first_meta fine (given_none asked.meta _ c.first_meta is))
+
+chosen_keeps : (asked : Asked) (all : List Candidate) (v : Volume) → ((c : Candidate) (cs : List Candidate) → all ≡ c ∷ cs → agrees asked c ≡ true) → chosen asked all ≡ Ok v → KeepsNumbers asked v
+chosen_keeps asked [] v fine h = cc
+chosen_keeps asked (c ∷ []) v fine h = meta_keeps asked c (known_meta asked) v refl (fine c [] refl) h
+chosen_keeps asked (c ∷ d ∷ rest) v fine h = go (as_good c d) h
+  where
+    go : (b : Bool) → cond b (Err Several) (with_meta asked c (known_meta asked)) ≡ Ok v → KeepsNumbers asked v
+    go true h = cc
+    go false h = meta_keeps asked c (known_meta asked) v refl (fine c (d ∷ rest) refl) h
+
+all_keep : (asked : Asked) (length : ℕ) (found : List Candidate) (v : Volume) (page block meta : Option ℕ) (magic : Option MagicKind) → known_page asked ≡ page → known_block asked ≡ block → known_meta asked ≡ meta → known_magic asked ≡ magic → settled_by asked length found page block meta magic ≡ Ok v → KeepsNumbers asked v
+all_keep asked length found v (Some page) (Some block) (Some meta) (Some magic) p b m k h = sized_keeps asked length page block meta magic v p b m k h
+all_keep asked length found v (Some page) (Some block) (Some meta) None p b m k h = chosen_keeps asked (agreeing asked found) v (filter_first (agrees asked) found) h
+all_keep asked length found v (Some page) (Some block) None magic p b m k h = chosen_keeps asked (agreeing asked found) v (filter_first (agrees asked) found) h
+all_keep asked length found v (Some page) None meta magic p b m k h = chosen_keeps asked (agreeing asked found) v (filter_first (agrees asked) found) h
+all_keep asked length found v None block meta magic p b m k h = chosen_keeps asked (agreeing asked found) v (filter_first (agrees asked) found) h
+
+pub settled_keeps : (asked : Asked) (length : ℕ) (found : List Candidate) (v : Volume) → settled asked length found ≡ Ok v → KeepsNumbers asked v
+unfolding settled
+settled_keeps asked length found v h = all_keep asked length found v (known_page asked) (known_block asked) (known_meta asked) (known_magic asked) refl refl refl refl h
+
+-- where all numbers are known the volumes that were found are not asked
+none_asked : (asked : Asked) (length : ℕ) (found other : List Candidate) (page block meta : Option ℕ) (magic : Option MagicKind) → (is_none page || (is_none block || (is_none meta || is_none magic))) ≡ false → settled_by asked length found page block meta magic ≡ settled_by asked length other page block meta magic
+none_asked asked length found other (Some page) (Some block) (Some meta) (Some magic) h = refl
+none_asked asked length found other (Some page) (Some block) (Some meta) None h = cc
+none_asked asked length found other (Some page) (Some block) None magic h = cc
+none_asked asked length found other (Some page) None meta magic h = cc
+none_asked asked length found other None block meta magic h = cc
+
+pub settled_alone : (asked : Asked) (length : ℕ) (found other : List Candidate) → needs_found asked ≡ false → settled asked length found ≡ settled asked length other
+unfolding settled
+settled_alone asked length found other h = none_asked asked length found other (known_page asked) (known_block asked) (known_meta asked) (known_magic asked) h

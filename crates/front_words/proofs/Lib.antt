@@ -1,0 +1,6 @@
+pub mod Hexed
+pub mod Parted
+pub mod Orders
+pub mod Refusing
+pub mod Keeping
+pub mod Working

@@ -1,0 +1,9 @@
+pub mod Words
+pub mod Amounts
+pub mod Options
+pub mod Tokens
+pub mod Pieces
+pub mod Asking
+pub mod Names
+pub mod Settling
+pub mod Scripts

@@ -1,0 +1,126 @@
+-- The numbers of the volume that a line means.
+use Rattle.std.specs.Prelude.{◌≡◌, ℕ, ◌-◌, ◌*◌, ◌/◌, ◌%◌, List, [], ◌∷◌, filter, Bool, true, false, not, Option, Some, None, is_none, option_map, unwrap_or, Result, Ok, Err, ◌==◌, ◌&&◌, ◌||◌, nat_le, if◌then◌else◌}
+use Rattle.geometry.specs.declared.magic.MagicKind.{MagicKind}
+use Rattle.geometry.specs.declared.magic.MagicKind.TheVariants.{Plain, Length}
+use Rattle.front_words.specs.declared.word.Preset.{Preset}
+use Rattle.front_words.specs.declared.word.Preset.TheVariants.{EspIdf, ArduinoEsp32, Mkspiffs}
+use Rattle.front_words.specs.declared.asked.Asked.{Asked}
+use Rattle.front_words.specs.declared.settling.Candidate.{Candidate}
+use Rattle.front_words.specs.declared.settling.Volume.{Volume}
+use Rattle.front_words.specs.declared.settling.Unsettled.{Unsettled}
+use Rattle.front_words.specs.declared.settling.Unsettled.TheVariants.{NoSize, Uneven, NoneFound, Several, AnyMeta}
+use Rattle.front_words.specs.Asking.{makes, changes}
+
+-- the first of two, where it is given
+abbrev pub first_of : {A : Type 0} → Option A → Option A → Option A
+first_of (Some a) other = Some a
+first_of None other = other
+
+-- whose numbers are meant: those that are named, of an image that is made else ESP-IDF's
+abbrev pub preset_of : Asked → Option Preset
+preset_of asked = first_of asked.preset (if makes asked.word then Some EspIdf else None)
+
+-- meta bytes of a file
+abbrev pub meta_by : Preset → ℕ
+meta_by EspIdf = 4
+meta_by ArduinoEsp32 = 4
+meta_by Mkspiffs = 0
+
+-- the numbers that are known without a look at the file: those that are given, else those of the preset
+abbrev pub known_page : Asked → Option ℕ
+known_page asked = first_of asked.page (option_map (λ p. 256) (preset_of asked))
+
+abbrev pub known_block : Asked → Option ℕ
+known_block asked = first_of asked.block (option_map (λ p. 4096) (preset_of asked))
+
+abbrev pub known_meta : Asked → Option ℕ
+known_meta asked = first_of asked.meta (option_map meta_by (preset_of asked))
+
+abbrev pub known_magic : Asked → Option MagicKind
+known_magic asked = first_of asked.magic (option_map (λ p. Length) (preset_of asked))
+
+-- the byte at which the volume begins
+abbrev pub start_of : Asked → ℕ
+start_of asked = unwrap_or asked.at 0
+
+-- the bytes of the volume: those that are given, else those that the file has from there on
+abbrev pub bytes_of : Asked → (length : ℕ) → ℕ
+bytes_of asked length = unwrap_or asked.size (length - start_of asked)
+
+-- a volume of so many bytes, where they are some whole blocks
+abbrev pub sized : Asked → (bytes page block meta : ℕ) → MagicKind → Result Volume Unsettled
+sized asked bytes page block meta magic =
+    if (bytes == 0) || not (nat_le bytes 4294967295) then Err NoSize
+    else if (block == 0) || not (bytes % block == 0) then Err (Uneven bytes block)
+    else Ok (record { at = start_of asked; page = page; block = block; blocks = bytes / block; meta = meta; magic = magic })
+
+-- a number is as it is given, if it is
+abbrev pub fits : Option ℕ → ℕ → Bool
+fits None n = true
+fits (Some given) n = given == n
+
+abbrev pub same_magic : MagicKind → MagicKind → Bool
+same_magic Plain Plain = true
+same_magic Length Length = true
+same_magic Plain Length = false
+same_magic Length Plain = false
+
+abbrev pub fits_magic : Option MagicKind → MagicKind → Bool
+fits_magic None kind = true
+fits_magic (Some given) kind = same_magic given kind
+
+-- a volume that was found is as far as numbers are known the one that is meant
+abbrev pub agrees : Asked → Candidate → Bool
+agrees asked c = fits asked.at c.at && (fits (known_page asked) c.page && (fits (known_block asked) c.block && (fits asked.size (c.block * c.blocks) && fits_magic (known_magic asked) c.magic)))
+
+-- one of the volumes that were found, by its least number of meta bytes that reads most, if none is known
+abbrev pub found_volume : Candidate → (meta : ℕ) → Volume
+found_volume c meta = record { at = c.at; page = c.page; block = c.block; blocks = c.blocks; meta = meta; magic = c.magic }
+
+abbrev pub with_meta : Asked → Candidate → Option ℕ → Result Volume Unsettled
+with_meta asked c (Some meta) = Ok (found_volume c meta)
+with_meta asked c None = if changes asked.word && not (c.first_meta == c.last_meta) then Err AnyMeta else Ok (found_volume c c.first_meta)
+
+-- two of them read as many whole files and as few damaged ones
+abbrev pub as_good : Candidate → Candidate → Bool
+as_good c d = (c.whole == d.whole) && (c.damaged == d.damaged)
+
+-- the best of several, the best first, if one is best
+abbrev pub chosen : Asked → List Candidate → Result Volume Unsettled
+chosen asked [] = Err NoneFound
+chosen asked (c ∷ []) = with_meta asked c (known_meta asked)
+chosen asked (c ∷ d ∷ rest) = if as_good c d then Err Several else with_meta asked c (known_meta asked)
+
+-- those that agree
+abbrev pub agreeing : Asked → List Candidate → List Candidate
+agreeing asked found = filter (agrees asked) found
+
+-- by the numbers that are known, if all are, else by the volumes that were found in the file
+abbrev pub settled_by : Asked → (length : ℕ) → List Candidate → (page block meta : Option ℕ) → Option MagicKind → Result Volume Unsettled
+settled_by asked length found (Some page) (Some block) (Some meta) (Some magic) = sized asked (bytes_of asked length) page block meta magic
+settled_by asked length found (Some page) (Some block) (Some meta) None = chosen asked (agreeing asked found)
+settled_by asked length found (Some page) (Some block) None magic = chosen asked (agreeing asked found)
+settled_by asked length found (Some page) None meta magic = chosen asked (agreeing asked found)
+settled_by asked length found None block meta magic = chosen asked (agreeing asked found)
+
+-- the volume that a line means, in a file of so many bytes
+unfoldable pub settled : Asked → (length : ℕ) → List Candidate → Result Volume Unsettled
+settled asked length found = settled_by asked length found (known_page asked) (known_block asked) (known_meta asked) (known_magic asked)
+
+-- the volumes that were found are asked
+abbrev pub needs_found : Asked → Bool
+needs_found asked = is_none (known_page asked) || (is_none (known_block asked) || (is_none (known_meta asked) || is_none (known_magic asked)))
+
+-- a number is the one that is given, if one is
+abbrev pub IsAsGiven : {A : Type 0} → Option A → A → Type 0
+IsAsGiven None is = Unit {0}
+IsAsGiven (Some given) is = given ≡ is
+
+-- the numbers of a volume are those that a line gives
+pub record KeepsNumbers (asked : Asked) (v : Volume) : Type 0 where
+  pub page : IsAsGiven asked.page v.page
+  pub block : IsAsGiven asked.block v.block
+  pub meta : IsAsGiven asked.meta v.meta
+  pub magic : IsAsGiven asked.magic v.magic
+  pub at : IsAsGiven asked.at v.at
+  pub size : IsAsGiven asked.size (v.block * v.blocks)

@@ -1,0 +1,38 @@
+ghost use Rattle.std.specs.Prelude.{◌≡◌, ℕ, ◌<◌, List, ◌∷◌, ◌++◌, length, false, Ok, IsErr};
+ghost use Rattle.front_words.specs.Tokens.{Part, parts, Twice};
+ghost use Rattle.front_words.specs.Pieces.{Piece, line, AreFree};
+ghost use Rattle.front_words.specs.Asking.{asked_by, in_slot};
+ghost use Rattle.front_words.specs.Settling.{settled, needs_found, KeepsNumbers};
+ghost use Rattle.front_words.specs.Scripts.{working};
+ghost use Rattle.front_words.specs.declared.asked.Asked.{Asked};
+ghost use Rattle.front_words.specs.declared.option.Slot.{Slot};
+ghost use Rattle.front_words.specs.declared.settling.Candidate.{Candidate};
+ghost use Rattle.front_words.specs.declared.settling.Volume.{Volume};
+
+/// An option means the same wherever it stands: of two neighbours of which at least one is an option with its value, either may come first.
+pub fn options_stand_in_any_order()
+    ensures { (before behind : List Piece) (one other : Piece) → AreFree one other →
+        asked_by (parts (line (before ++ one ∷ other ∷ behind))) ≡ asked_by (parts (line (before ++ other ∷ one ∷ behind))) }
+{}
+
+/// A line that gives an option twice is refused, whatever else it says.
+pub fn an_option_twice_is_refused()
+    ensures { (all : List Part) (slot : Slot) → in_slot slot all ≡ Twice → IsErr (asked_by all) }
+{}
+
+/// Numbers that a line gives are those of the volume that it means. So a size that is no whole number of blocks is never rounded.
+pub fn given_numbers_are_kept()
+    ensures { (asked : Asked) (length : ℕ) (found : List Candidate) (v : Volume) → settled asked length found ≡ Ok v → KeepsNumbers asked v }
+{}
+
+/// A line that gives all numbers of its volume, or by a preset, means that volume whatever the file holds.
+pub fn known_numbers_ask_for_no_look()
+    ensures { (asked : Asked) (length : ℕ) (found other : List Candidate) → needs_found asked ≡ false → settled asked length found ≡ settled asked length other }
+{}
+
+/// A working name is another name of the same length, and turned again it is the name.
+pub fn working_names_are_others()
+    ensures again { (b : ℕ) (bs : List ℕ) → b < 256 → working (working (b ∷ bs)) ≡ b ∷ bs }
+    ensures other { (b : ℕ) (bs : List ℕ) → working (b ∷ bs) ≡ b ∷ bs → ⊥ }
+    ensures length { (name : List ℕ) → length (working name) ≡ length name }
+{}

@@ -1,0 +1,176 @@
+ghost use Rattle.std.specs.Prelude.{◌≡◌, Option};
+ghost use Rattle.front_words.specs.Options.{valued, switched, rank, text_of as text_for};
+
+use crate::word::is;
+
+/// What an option gives. Of each a line may give one.
+#[derive(Clone, Copy, Debug, PartialEq, Eq)]
+pub enum Slot {
+    /// `-p`, `--page`, `--page-size`: bytes of a page.
+    Page,
+    /// `-b`, `--block`, `--block-size`: bytes of a block.
+    Block,
+    /// `-s`, `--size`: bytes of the volume.
+    Size,
+    /// `--meta`, `--meta-len`: meta bytes of a file.
+    Meta,
+    /// `--magic`, `--use-magic-len`, `--no-magic-len`: what the magic tells.
+    Magic,
+    /// `--at`: the byte of the file at which the volume begins.
+    At,
+    /// `--for`: whose numbers are meant.
+    Preset,
+    /// `--dry-run`: the file is only read.
+    DryRun,
+    /// `--repair`: a check mends the file.
+    Repair,
+    /// `--svg`: a picture is one for a browser.
+    Svg,
+    /// `--force`: damaged files may be removed, whatever another META reads.
+    Force,
+    /// `-c`, `--create`, of mkspiffs: the folder that is packed.
+    Create,
+    /// `-u`, `--unpack`, of mkspiffs: the folder that is filled.
+    Unpack,
+    /// `-l`, `--list`, of mkspiffs.
+    List,
+    /// `-i`, `--visualize`, of mkspiffs.
+    Visualize,
+    /// `-a`, `--all-files`, of mkspiffs: what is always done.
+    AllFiles,
+    /// `-d`, `--debug`, of mkspiffs: a number from 0 to 5, which asks for nothing here.
+    Debug,
+    /// `--use-magic`, of spiffsgen.py: what is always done.
+    UseMagic,
+    /// `--obj-name-len`, of spiffsgen.py: 32, which it always is.
+    NameLength,
+    /// `--no-magic`, of spiffsgen.py: refused, since there are no volumes without magic here.
+    NoMagic,
+    /// `--big-endian`, of spiffsgen.py: refused, since numbers are little-endian.
+    BigEndian,
+    /// `--aligned-obj-ix-tables`, of spiffsgen.py: refused, since index tables aren't aligned.
+    Aligned,
+    /// `--follow-symlinks`, of spiffsgen.py: refused, since links are passed over.
+    Links,
+    /// An option that takes a value is the last word: refused.
+    NoValue,
+    /// A word that begins like an option and is none: refused.
+    Unknown,
+}
+
+impl Slot {
+    /// Its place in the list of what options give.
+    pub(crate) fn rank(self) -> u8
+        ensures { result ≡ rank self }
+    {
+        match self {
+            Slot::Page => 0,
+            Slot::Block => 1,
+            Slot::Size => 2,
+            Slot::Meta => 3,
+            Slot::Magic => 4,
+            Slot::At => 5,
+            Slot::Preset => 6,
+            Slot::DryRun => 7,
+            Slot::Repair => 8,
+            Slot::Svg => 9,
+            Slot::Force => 10,
+            Slot::Create => 11,
+            Slot::Unpack => 12,
+            Slot::List => 13,
+            Slot::Visualize => 14,
+            Slot::AllFiles => 15,
+            Slot::Debug => 16,
+            Slot::UseMagic => 17,
+            Slot::NameLength => 18,
+            Slot::NoMagic => 19,
+            Slot::BigEndian => 20,
+            Slot::Aligned => 21,
+            Slot::Links => 22,
+            Slot::NoValue => 23,
+            Slot::Unknown => 24,
+        }
+    }
+}
+
+/// What an option with a value gives.
+#[tactic(auto, unfolding(crate::specs::Options::valued))]
+pub(crate) fn valued_slot(name: &[u8]) -> Option<Slot>
+    ensures { result ≡ valued name.now }
+{
+    if is(name, b"-p") || is(name, b"--page") || is(name, b"--page-size") {
+        Some(Slot::Page)
+    } else if is(name, b"-b") || is(name, b"--block") || is(name, b"--block-size") {
+        Some(Slot::Block)
+    } else if is(name, b"-s") || is(name, b"--size") {
+        Some(Slot::Size)
+    } else if is(name, b"--meta") || is(name, b"--meta-len") {
+        Some(Slot::Meta)
+    } else if is(name, b"--magic") {
+        Some(Slot::Magic)
+    } else if is(name, b"--at") {
+        Some(Slot::At)
+    } else if is(name, b"--for") {
+        Some(Slot::Preset)
+    } else if is(name, b"-c") || is(name, b"--create") {
+        Some(Slot::Create)
+    } else if is(name, b"-u") || is(name, b"--unpack") {
+        Some(Slot::Unpack)
+    } else if is(name, b"-d") || is(name, b"--debug") {
+        Some(Slot::Debug)
+    } else if is(name, b"--obj-name-len") {
+        Some(Slot::NameLength)
+    } else {
+        None
+    }
+}
+
+/// What an option without a value gives.
+#[tactic(auto, unfolding(crate::specs::Options::switched))]
+pub(crate) fn switched_slot(name: &[u8]) -> Option<Slot>
+    ensures { result ≡ switched name.now }
+{
+    if is(name, b"--use-magic-len") || is(name, b"--no-magic-len") {
+        Some(Slot::Magic)
+    } else if is(name, b"--dry-run") {
+        Some(Slot::DryRun)
+    } else if is(name, b"--repair") {
+        Some(Slot::Repair)
+    } else if is(name, b"--svg") {
+        Some(Slot::Svg)
+    } else if is(name, b"--force") {
+        Some(Slot::Force)
+    } else if is(name, b"-l") || is(name, b"--list") {
+        Some(Slot::List)
+    } else if is(name, b"-i") || is(name, b"--visualize") {
+        Some(Slot::Visualize)
+    } else if is(name, b"-a") || is(name, b"--all-files") {
+        Some(Slot::AllFiles)
+    } else if is(name, b"--use-magic") {
+        Some(Slot::UseMagic)
+    } else if is(name, b"--no-magic") {
+        Some(Slot::NoMagic)
+    } else if is(name, b"--big-endian") {
+        Some(Slot::BigEndian)
+    } else if is(name, b"--aligned-obj-ix-tables") {
+        Some(Slot::Aligned)
+    } else if is(name, b"--follow-symlinks") {
+        Some(Slot::Links)
+    } else {
+        None
+    }
+}
+
+/// The value that an option without one stands for: itself, but for those of spiffsgen.py that tell what the magic tells.
+#[tactic(auto, unfolding(crate::specs::Options::text_of))]
+pub(crate) fn switch_text(name: &[u8]) -> &[u8]
+    ensures { result.now ≡ text_for name.now }
+{
+    if is(name, b"--use-magic-len") {
+        b"len"
+    } else if is(name, b"--no-magic-len") {
+        b"plain"
+    } else {
+        name
+    }
+}

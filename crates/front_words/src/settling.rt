@@ -1,0 +1,338 @@
+ghost use Rattle.std.specs.Prelude.{◌≡◌, ◌∷◌, [], MatchOption, option_map};
+ghost use Rattle.front_words.specs.Settling.{first_of as the_first, preset_of as whose, meta_by, known_page as the_page, known_block as the_block, known_meta as the_meta, known_magic as the_magic, start_of, bytes_of, sized as the_sized, fits as the_fit, fits_magic, same_magic, agrees as the_agreement, found_volume as the_volume, with_meta as the_meta_of, as_good, chosen, agreeing, settled, needs_found};
+
+use crate::asked::{Asked, changes, makes};
+use crate::word::Preset;
+use geometry::MagicKind;
+
+/// A volume that a file may hold, as `detect` finds it.
+#[derive(Clone, Copy, Debug, PartialEq, Eq)]
+pub struct Candidate {
+    /// The byte of the file at which it begins.
+    pub at: u32,
+    /// Bytes of a page.
+    pub page: u32,
+    /// Bytes of a block.
+    pub block: u32,
+    /// Blocks.
+    pub blocks: u32,
+    /// The least number of meta bytes by which most files are whole.
+    pub first_meta: u32,
+    /// The last of those that follow it without a gap and read as many.
+    pub last_meta: u32,
+    /// What the magic tells.
+    pub magic: MagicKind,
+    /// How many files are whole by these.
+    pub whole: u32,
+    /// How many ids are damaged by these.
+    pub damaged: u32,
+}
+
+/// The volume that a line means.
+#[derive(Clone, Copy, Debug, PartialEq, Eq)]
+pub struct Volume {
+    /// The byte of the file at which it begins.
+    pub at: u32,
+    /// Bytes of a page.
+    pub page: u32,
+    /// Bytes of a block.
+    pub block: u32,
+    /// Blocks.
+    pub blocks: u32,
+    /// Meta bytes of a file.
+    pub meta: u32,
+    /// What the magic tells.
+    pub magic: MagicKind,
+}
+
+/// Why it isn't known which volume a line means.
+#[derive(Clone, Copy, Debug, PartialEq, Eq)]
+pub enum Unsettled {
+    /// The size is neither given nor that of the file, which is empty or has 2^32 bytes or more.
+    NoSize,
+    /// The size is no whole number of blocks.
+    Uneven { size: u32, block: u32 },
+    /// No volume that was found has the numbers that are given.
+    NoneFound,
+    /// The best two that were found read as much.
+    Several,
+    /// The one that was found reads as much by several numbers of meta bytes, and the line would change it.
+    AnyMeta,
+}
+
+// A number that is given, else another.
+fn first_of(given: Option<u32>, other: Option<u32>) -> Option<u32>
+    ensures { result ≡ the_first given other }
+{
+    match given {
+        Some(number) => Some(number),
+        None => other,
+    }
+}
+
+// Whose numbers are meant.
+fn preset_of(asked: &Asked) -> Option<Preset>
+    ensures { result ≡ whose asked.now }
+{
+    match asked.preset {
+        Some(preset) => Some(preset),
+        None if makes(asked.word) => Some(Preset::EspIdf),
+        None => None,
+    }
+}
+
+// Meta bytes of a preset.
+fn preset_meta(preset: Preset) -> u32
+    ensures { result ≡ meta_by preset }
+{
+    match preset {
+        Preset::EspIdf | Preset::ArduinoEsp32 => 4,
+        Preset::Mkspiffs => 0,
+    }
+}
+
+// The page of a preset.
+fn preset_page(preset: Option<Preset>) -> Option<u32>
+    ensures { result ≡ option_map (λ _. 256) preset }
+{
+    match preset {
+        Some(_) => Some(256),
+        None => None,
+    }
+}
+
+// Its block.
+fn preset_block(preset: Option<Preset>) -> Option<u32>
+    ensures { result ≡ option_map (λ _. 4096) preset }
+{
+    match preset {
+        Some(_) => Some(4096),
+        None => None,
+    }
+}
+
+// Its meta bytes.
+fn meta_of(preset: Option<Preset>) -> Option<u32>
+    ensures { result ≡ option_map meta_by preset }
+{
+    match preset {
+        Some(preset) => Some(preset_meta(preset)),
+        None => None,
+    }
+}
+
+// The page, where it is known without a look at the file.
+fn known_page(asked: &Asked) -> Option<u32>
+    ensures { result ≡ the_page asked.now }
+{
+    first_of(asked.page, preset_page(preset_of(asked)))
+}
+
+// The block.
+fn known_block(asked: &Asked) -> Option<u32>
+    ensures { result ≡ the_block asked.now }
+{
+    first_of(asked.block, preset_block(preset_of(asked)))
+}
+
+// The meta bytes.
+fn known_meta(asked: &Asked) -> Option<u32>
+    ensures { result ≡ the_meta asked.now }
+{
+    first_of(asked.meta, meta_of(preset_of(asked)))
+}
+
+// The kind of magic.
+fn known_magic(asked: &Asked) -> Option<MagicKind>
+    ensures { result ≡ the_magic asked.now }
+{
+    match asked.magic {
+        Some(magic) => Some(magic),
+        None => match preset_of(asked) {
+            Some(_) => Some(MagicKind::Length),
+            None => None,
+        },
+    }
+}
+
+// The byte at which the volume begins.
+fn start(asked: &Asked) -> u32
+    ensures { result ≡ start_of asked.now }
+{
+    match asked.at {
+        Some(at) => at,
+        None => 0,
+    }
+}
+
+// The bytes of the volume.
+fn byte_count(asked: &Asked, length: u64) -> u64
+    ensures { result ≡ bytes_of asked.now length }
+{
+    match asked.size {
+        Some(size) => u64::from(size),
+        None => length.saturating_sub(u64::from(start(asked))),
+    }
+}
+
+// The four numbers of a volume that are known without its size.
+#[derive(Clone, Copy, Debug, PartialEq, Eq)]
+struct Kept {
+    page: u32,
+    block: u32,
+    meta: u32,
+    magic: MagicKind,
+}
+
+// The volume of so many bytes.
+fn sized(asked: &Asked, bytes: u64, kept: Kept) -> Result<Volume, Unsettled>
+    ensures { result ≡ the_sized asked.now bytes kept.page kept.block kept.meta kept.magic }
+{
+    if bytes == 0 || bytes > 4_294_967_295 {
+        return Err(Unsettled::NoSize);
+    }
+    let size = bytes as u32;
+    let block = kept.block;
+    if block == 0 || size % block != 0 {
+        return Err(Unsettled::Uneven { size, block });
+    }
+    Ok(Volume {
+        at: start(asked),
+        page: kept.page,
+        block,
+        blocks: size / block,
+        meta: kept.meta,
+        magic: kept.magic,
+    })
+}
+
+// Whether a number is as it is given, if it is.
+fn fits(given: Option<u32>, number: u64) -> bool
+    ensures { result ≡ the_fit given number }
+{
+    match given {
+        Some(given) => u64::from(given) == number,
+        None => true,
+    }
+}
+
+// Whether a magic is as it is given, if it is.
+fn has_magic(given: Option<MagicKind>, kind: MagicKind) -> bool
+    ensures { result ≡ fits_magic given kind }
+{
+    match (given, kind) {
+        (None, _) => true,
+        (Some(MagicKind::Plain), MagicKind::Plain) => true,
+        (Some(MagicKind::Length), MagicKind::Length) => true,
+        _ => false,
+    }
+}
+
+// Whether a volume that was found is the one that is meant, as far as numbers are known.
+fn agrees(asked: &Asked, found: &Candidate) -> bool
+    ensures { result ≡ the_agreement asked.now found.now }
+{
+    let bytes = u64::from(found.block) * u64::from(found.blocks);
+    fits(asked.at, u64::from(found.at))
+        && fits(known_page(asked), u64::from(found.page))
+        && fits(known_block(asked), u64::from(found.block))
+        && fits(asked.size, bytes)
+        && has_magic(known_magic(asked), found.magic)
+}
+
+// The first that agrees, and those behind it.
+fn next_agreeing<'c>(asked: &Asked, found: &'c [Candidate]) -> Option<(Candidate, &'c [Candidate])>
+    ensures { MatchOption result (agreeing asked.now found.now ≡ [])
+        (λ r. agreeing asked.now found.now ≡ r.0 ∷ agreeing asked.now r.1.now) }
+{
+    let mut left = found;
+    while let [first, rest @ ..] = left {
+        if agrees(asked, first) {
+            return Some((*first, rest));
+        }
+        left = rest;
+    }
+    None
+}
+
+// A volume that was found, with these meta bytes.
+fn found_volume(found: &Candidate, meta: u32) -> Volume
+    ensures { result ≡ the_volume found.now meta }
+{
+    Volume {
+        at: found.at,
+        page: found.page,
+        block: found.block,
+        blocks: found.blocks,
+        meta,
+        magic: found.magic,
+    }
+}
+
+// A volume that was found, with the meta bytes that are known.
+fn with_meta(asked: &Asked, found: &Candidate) -> Result<Volume, Unsettled>
+    ensures { result ≡ the_meta_of asked.now found.now (the_meta asked.now) }
+{
+    match known_meta(asked) {
+        Some(meta) => Ok(found_volume(found, meta)),
+        None if changes(asked.word) && found.first_meta != found.last_meta => {
+            Err(Unsettled::AnyMeta)
+        }
+        None => Ok(found_volume(found, found.first_meta)),
+    }
+}
+
+// Whether two read as much.
+fn is_as_good(one: &Candidate, other: &Candidate) -> bool
+    ensures { result ≡ as_good one.now other.now }
+{
+    one.whole == other.whole && one.damaged == other.damaged
+}
+
+// The best that was found, if one is best.
+fn choose(asked: &Asked, found: &[Candidate]) -> Result<Volume, Unsettled>
+    ensures { result ≡ chosen asked.now (agreeing asked.now found.now) }
+{
+    let Some((best, rest)) = next_agreeing(asked, found) else {
+        return Err(Unsettled::NoneFound);
+    };
+    match next_agreeing(asked, rest) {
+        Some((second, _)) if is_as_good(&best, &second) => Err(Unsettled::Several),
+        _ => with_meta(asked, &best),
+    }
+}
+
+/// The volume that a line means in a file of so many bytes. What `found` holds are the volumes that `detect` finds in it, the best first. It
+/// is asked only where a number is neither given nor that of a preset; of an image that is made none ever is.
+#[tactic(auto, unfolding(crate::specs::Settling::settled))]
+pub fn settle(asked: &Asked, length: u64, found: &[Candidate]) -> Result<Volume, Unsettled>
+    ensures { result ≡ settled asked.now length found.now }
+{
+    match (
+        known_page(asked),
+        known_block(asked),
+        known_meta(asked),
+        known_magic(asked),
+    ) {
+        (Some(page), Some(block), Some(meta), Some(magic)) => {
+            let kept = Kept {
+                page,
+                block,
+                meta,
+                magic,
+            };
+            sized(asked, byte_count(asked, length), kept)
+        }
+        _ => choose(asked, found),
+    }
+}
+
+/// Whether `settle` looks at what `detect` finds.
+pub fn wants_detect(asked: &Asked) -> bool
+    ensures { result ≡ needs_found asked.now }
+{
+    known_page(asked).is_none()
+        || known_block(asked).is_none()
+        || known_meta(asked).is_none()
+        || known_magic(asked).is_none()
+}

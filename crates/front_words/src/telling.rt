@@ -1,0 +1,136 @@
+//! Why a line is refused, in words for the one who gave it.
+use crate::asked::Refusal;
+use crate::option::Slot;
+use crate::settling::Unsettled;
+use crate::word::Word;
+use std::fmt;
+
+// How an option is written.
+fn option_name(slot: Slot) -> &'static str {
+    match slot {
+        Slot::Page => "--page",
+        Slot::Block => "--block",
+        Slot::Size => "--size",
+        Slot::Meta => "--meta",
+        Slot::Magic => "--magic",
+        Slot::At => "--at",
+        Slot::Preset => "--for",
+        Slot::DryRun => "--dry-run",
+        Slot::Repair => "--repair",
+        Slot::Svg => "--svg",
+        Slot::Force => "--force",
+        Slot::Create => "-c",
+        Slot::Unpack => "-u",
+        Slot::List => "-l",
+        Slot::Visualize => "-i",
+        Slot::AllFiles => "-a",
+        Slot::Debug => "-d",
+        Slot::UseMagic => "--use-magic",
+        Slot::NameLength => "--obj-name-len",
+        Slot::NoMagic => "--no-magic",
+        Slot::BigEndian => "--big-endian",
+        Slot::Aligned => "--aligned-obj-ix-tables",
+        Slot::Links => "--follow-symlinks",
+        Slot::NoValue => "an option at the end",
+        Slot::Unknown => "an unknown option",
+    }
+}
+
+// Why an option is never taken.
+fn why_not(slot: Slot) -> &'static str {
+    match slot {
+        Slot::NoMagic => "every volume has a magic here",
+        Slot::BigEndian => "numbers on a volume are little-endian",
+        Slot::Aligned => "index tables aren't aligned here",
+        Slot::Links => "links are passed over: pack a copy of the folder, made by cp -RL",
+        Slot::NoValue => "its value is missing",
+        _ => "there is no such option",
+    }
+}
+
+// Which values an option can have.
+fn value_form(slot: Slot) -> &'static str {
+    match slot {
+        Slot::Magic => "len or plain",
+        Slot::Preset => "esp-idf, arduino-esp32 or mkspiffs",
+        Slot::NameLength => "32, the length of every name field here",
+        Slot::Debug => "a number from 0 to 5",
+        _ => "a number below 2^32: digits, digits with K or M behind, or 0x and hexadecimal digits",
+    }
+}
+
+// The names that a word takes.
+fn word_form(word: Word) -> &'static str {
+    match word {
+        Word::Ls => "ls IMAGE",
+        Word::Pack => "pack FOLDER IMAGE",
+        Word::Gen => "gen SIZE FOLDER IMAGE",
+        Word::Unpack => "unpack IMAGE FOLDER",
+        Word::Fsck => "fsck IMAGE",
+        Word::Cat => "cat IMAGE NAME",
+        Word::Put => "put IMAGE FILE [NAME]",
+        Word::Rm => "rm IMAGE NAME ..",
+        Word::Mv => "mv IMAGE OLD NEW",
+        Word::Df => "df IMAGE",
+        Word::Size => "size FOLDER",
+        Word::Picture => "picture IMAGE",
+    }
+}
+
+impl fmt::Display for Refusal {
+    fn fmt<W: fmt::Write>(&self, f: &mut fmt::Formatter<W>) -> fmt::Result {
+        match *self {
+            Refusal::NoWord => write!(f, "no word says what is to be done"),
+            Refusal::UnknownWord => write!(f, "there is no such command"),
+            Refusal::TwoWords => write!(f, "only one of -c, -u, -l and -i can be given"),
+            Refusal::Twice(slot) => {
+                let name = option_name(slot);
+                write!(f, "{name} is given twice")
+            }
+            Refusal::NotTaken(slot) => {
+                let name = option_name(slot);
+                let reason = why_not(slot);
+                write!(f, "{name} isn't taken: {reason}")
+            }
+            Refusal::NotFor(slot) => {
+                let name = option_name(slot);
+                write!(f, "{name} means nothing for this word")
+            }
+            Refusal::BadValue(slot) => {
+                let name = option_name(slot);
+                let values = value_form(slot);
+                write!(f, "{name} is {values}")
+            }
+            Refusal::Places(word) => {
+                let form = word_form(word);
+                write!(f, "the form is {form}")
+            }
+        }
+    }
+}
+
+impl fmt::Display for Unsettled {
+    fn fmt<W: fmt::Write>(&self, f: &mut fmt::Formatter<W>) -> fmt::Result {
+        match *self {
+            Unsettled::NoSize => {
+                write!(
+                    f,
+                    "the size isn't known: give it by --size, 1 to 4294967295 bytes"
+                )
+            }
+            Unsettled::Uneven { size, block } => {
+                write!(f, "{size} bytes are no whole number of blocks of {block}")
+            }
+            Unsettled::NoneFound => write!(f, "no volume with these numbers was found"),
+            Unsettled::Several => {
+                write!(f, "several volumes may be meant: give the numbers of one")
+            }
+            Unsettled::AnyMeta => {
+                write!(
+                    f,
+                    "files read as well by several METAs: give the one of the firmware by --meta"
+                )
+            }
+        }
+    }
+}

@@ -1,0 +1,5 @@
+pub mod Tests
+pub mod Downward
+pub mod Spelled
+pub mod Found
+pub mod Apart

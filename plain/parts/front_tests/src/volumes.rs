@@ -1,0 +1,103 @@
+//! Which volume a line means.
+
+use crate::lines::asked;
+use liverymenhir::geometry::MagicKind;
+use rattle_host::alloc::Global;
+use spiffs::front_words::{Candidate, Unsettled, Volume, settle, top_words, wants_detect};
+
+const FOUND: Candidate = Candidate {
+    at: 0,
+    page: 256,
+    block: 4096,
+    blocks: 16,
+    first_meta: 4,
+    last_meta: 4,
+    magic: MagicKind::Length,
+    whole: 3,
+    damaged: 0,
+};
+
+const VOLUME: Volume = Volume { at: 0, page: 256, block: 4096, blocks: 16, meta: 4, magic: MagicKind::Length };
+
+#[test]
+fn an_image_that_is_made_has_the_numbers_of_esp_idf() {
+    for (line, length, wanted) in [
+        ("pack f i", 65_536, Ok(VOLUME)),
+        ("pack f i -s 64K", 7, Ok(VOLUME)),
+        ("gen 65536 f i", 0, Ok(VOLUME)),
+        ("gen 0x10000 f i", 1 << 40, Ok(VOLUME)),
+        ("pack f i -s 1M --for mkspiffs", 0, Ok(Volume { blocks: 256, meta: 0, ..VOLUME })),
+        ("pack f i -s 1M --for mkspiffs --meta 7", 0, Ok(Volume { blocks: 256, meta: 7, ..VOLUME })),
+        ("-c f -p 512 -b 8192 -s 65536 i", 0, Ok(Volume { page: 512, block: 8192, blocks: 8, ..VOLUME })),
+        ("gen 64K f i --no-magic-len", 0, Ok(Volume { magic: MagicKind::Plain, ..VOLUME })),
+        ("pack f i", 0, Err(Unsettled::NoSize)),
+        ("pack f i -s 0", 65_536, Err(Unsettled::NoSize)),
+        ("pack f i", 1 << 32, Err(Unsettled::NoSize)),
+        ("pack f i", 65_535, Err(Unsettled::Uneven { size: 65_535, block: 4096 })),
+        ("pack f i -s 65537", 0, Err(Unsettled::Uneven { size: 65_537, block: 4096 })),
+        ("gen 1000 f i", 0, Err(Unsettled::Uneven { size: 1000, block: 4096 })),
+        ("pack f i -s 64K -b 0", 0, Err(Unsettled::Uneven { size: 65_536, block: 0 })),
+        ("pack f i -s 64K -b 24K", 0, Err(Unsettled::Uneven { size: 65_536, block: 24_576 })),
+    ] {
+        assert!(!wants_detect(&asked(line)));
+        assert_eq!(settle(&asked(line), length, &[]), wanted, "{line}");
+    }
+}
+
+#[test]
+fn numbers_that_are_left_out_come_from_the_file() {
+    let second = Candidate { at: 4096, whole: 1, ..FOUND };
+    let equal = Candidate { block: 8192, blocks: 8, ..FOUND };
+    let any_meta = Candidate { first_meta: 0, last_meta: 64, whole: 0, ..FOUND };
+    for (line, found, wanted) in [
+        ("ls i", [FOUND, second], Ok(VOLUME)),
+        ("ls i", [FOUND, equal], Err(Unsettled::Several)),
+        ("ls i -b 8K", [FOUND, equal], Ok(Volume { block: 8192, blocks: 8, ..VOLUME })),
+        ("ls i -b 4K", [FOUND, equal], Ok(VOLUME)),
+        ("ls i -b 16K", [FOUND, equal], Err(Unsettled::NoneFound)),
+        ("ls i --at 4096", [FOUND, second], Ok(Volume { at: 4096, ..VOLUME })),
+        ("ls i --meta 9", [FOUND, second], Ok(Volume { meta: 9, ..VOLUME })),
+        ("ls i -s 64K", [FOUND, second], Ok(VOLUME)),
+        ("ls i -s 128K", [FOUND, second], Err(Unsettled::NoneFound)),
+        ("ls i -s 100", [FOUND, second], Err(Unsettled::NoneFound)),
+        ("ls i --magic plain", [FOUND, second], Err(Unsettled::NoneFound)),
+        ("ls i", [any_meta, Candidate { damaged: 1, ..any_meta }], Ok(Volume { meta: 0, ..VOLUME })),
+        ("put i f", [any_meta, Candidate { damaged: 1, ..any_meta }], Err(Unsettled::AnyMeta)),
+        ("put i f --meta 4", [any_meta, Candidate { damaged: 1, ..any_meta }], Ok(VOLUME)),
+        ("rm i f", [FOUND, second], Ok(VOLUME)),
+    ] {
+        assert!(wants_detect(&asked(line)));
+        assert_eq!(settle(&asked(line), 1 << 20, &found), wanted, "{line}");
+    }
+    assert_eq!(settle(&asked("ls i"), 65_536, &[]), Err(Unsettled::NoneFound));
+}
+
+#[test]
+fn a_preset_of_a_file_asks_for_no_look_at_it() {
+    let line = asked("ls i --for esp-idf --at 0x1000");
+    assert!(!wants_detect(&line));
+    assert_eq!(settle(&line, 69_632, &[]), Ok(Volume { at: 4096, ..VOLUME }));
+    assert_eq!(settle(&line, 4096, &[]), Err(Unsettled::NoSize));
+    assert_eq!(settle(&line, 100, &[]), Err(Unsettled::NoSize));
+    assert_eq!(settle(&line, 69_633, &[]), Err(Unsettled::Uneven { size: 65_537, block: 4096 }));
+    assert!(wants_detect(&asked("ls i -p 256 -b 4096 --meta 4")));
+    assert!(!wants_detect(&asked("ls i -p 256 -b 4096 --meta 4 --magic len")));
+}
+
+#[test]
+fn the_top_call_gets_its_words() {
+    for (line, wanted) in [
+        ("ls i", "list 256 4096 16 4 len i"),
+        ("pack f i", "make 256 4096 16 4 len i"),
+        ("gen 64K f i", "make 256 4096 16 4 len i"),
+        ("unpack i f", "extract 256 4096 16 4 len i"),
+        ("cat i n", "extract 256 4096 16 4 len i"),
+        ("fsck i", "check 256 4096 16 4 len i"),
+        ("rm i n", "run 256 4096 16 4 len i"),
+        ("df i", "run 256 4096 16 4 len i"),
+    ] {
+        let words = top_words(Global, asked(line).word, &VOLUME, "i").expect("memory");
+        let words: std::vec::Vec<&str> = words.iter().map(|word| word.as_str()).collect();
+        assert_eq!(words.join(" "), wanted);
+    }
+}
