@@ -1,3 +1,2 @@
 pub mod Growing
-pub mod Adding
 pub mod Putting

@@ -1,6 +1,6 @@
 -- What a volume answers where a new file is made and written.
-use Rattle.std.proofs.Common.{◌≡◌, ℕ, zero, suc, ◌+◌, ◌-◌, ◌<◌, ◌≤◌, List, [], ◌∷◌, ◌++◌, length, take, drop, Bool, true, false, ◌==◌, Option, Some, None, refl, sym, ◌∙◌, ap, arith, subst, ⊎_elim}
-use Rattle.std.specs.Prelude.{replicate, sum_by}
+use Rattle.std.proofs.Common.{◌≡◌, ℕ, ◌+◌, ◌-◌, ◌<◌, ◌≤◌, List, [], ◌∷◌, ◌++◌, length, take, drop, Bool, true, false, ◌==◌, Option, Some, None, refl, sym, ◌∙◌, ap, arith, subst, ⊎_elim}
+use Rattle.std.specs.Prelude.{replicate}
 use Rattle.std.proofs.lemmas.Bool.{cases_Bool, cases_lt, ne_eqb, eqb-true, eqb-false}
 use Rattle.std.proofs.lemmas.Option.{none-some, same_Some}
 use Rattle.std.proofs.lemmas.List.{take_all, drop_all, append-nil, length-append, set-set, get_or-set_same}
@@ -16,14 +16,14 @@ use Rattle.table_model.specs.declared.reply.Info.{Info}
 use Rattle.table_model.specs.Calls.{answer_write, info_of}
 use Rattle.table_model.specs.Outcome.{Outcome, gives, refused, page_refusal}
 use Rattle.table_model.specs.Ask.{Opens, Writes}
-use Rattle.table_model.specs.Reply.{Tells, Refuses}
+use Rattle.table_model.specs.Reply.{Tells}
 use Rattle.table_model.specs.Steps.{is_refusal}
 use Rattle.table_model.specs.Flat.{answer}
 use Rattle.call_model.proofs.Unused.{least-unused}
 use Rattle.call_model.proofs.Tables.{file_of-put}
 use Rattle.call_model.proofs.Parts.{put_twice}
 use Rattle.file_room.specs.Fitting.{has_room_for, IsNew, write_all, put_new, IsTaken, IsFull, size_of, IsMost, IsLargest}
-use Rattle.file_room.proofs.Adding.{put-adds}
+use Rattle.header_laws.proofs.AddsUp.{put-adds}
 use Rattle.file_room.proofs.Growing.{shorter-fits, longer-fails}
 
 -- ---- the lowest closed descriptor is one of them
@@ -191,7 +191,7 @@ pub most_is : (g : Geometry) (s : State) (info : Info) (most over : ℕ) → inf
 most_is g s info most over told room full more =
     let last : has_room_for g (index_count g s.table) (data_count g s.table) most ≡ true = subst (λ (x : Info). has_room_for g x.index_pages x.data_pages most ≡ true) (sym told) room in
     let next : has_room_for g (index_count g s.table) (data_count g s.table) (most + 1) ≡ false =
-        subst (λ (n : ℕ). has_room_for g (index_count g s.table) (data_count g s.table) n ≡ false) more (subst (λ (x : Info). has_room_for g x.index_pages x.data_pages over ≡ false) (sym told) full) in
+    subst (λ (n : ℕ). has_room_for g (index_count g s.table) (data_count g s.table) n ≡ false) more (subst (λ (x : Info). has_room_for g x.index_pages x.data_pages over ≡ false) (sym told) full) in
     record {
       taken = λ name flags fd pieces new less. (all_ends g s name flags fd new most last next pieces).taken (omega (arith, less));
       refused = λ name flags fd pieces new above. (all_ends g s name flags fd new most last next pieces).refuses (omega (arith, above));

@@ -1,23 +1,21 @@
 -- The least number of blocks.
-use Rattle.std.proofs.Common.{◌≡◌, ℕ, ◌+◌, ◌-◌, ◌*◌, ◌/◌, ◌<◌, ◌≤◌, min, List, true, false, Option, Some, None, refl, sym, ◌∙◌, ap, arith, subst, ⊎_elim}
+use Rattle.std.proofs.Common.{◌≡◌, ℕ, ◌+◌, ◌-◌, ◌*◌, ◌/◌, ◌<◌, ◌≤◌, List, true, false, Option, Some, None, refl, sym, ◌∙◌, ap, arith, subst, ⊎_elim}
 use Rattle.std.specs.Prelude.{nat_lt}
 use Rattle.std.proofs.Math.Nat.{mul-le-mul_right, div-mul-le_self}
 use Rattle.std.proofs.lemmas.Nat.{le-div}
-use Rattle.std.proofs.lemmas.Bool.{cases_Bool, leb-true, leb-false, le-leb, lt-leb, ltb-true, ltb-false, lt-ltb, le-ltb}
+use Rattle.std.proofs.lemmas.Bool.{cases_Bool, leb-true, le-leb, lt-leb, ltb-true, ltb-false, lt-ltb, le-ltb}
 use Rattle.geometry.specs.declared.geometry.Geometry.{Geometry}
-use Rattle.geometry.specs.Rules.{pages_in, entries_in}
 use Rattle.geometry.specs.Numbers.{ceil, per_block, entries, page_count, write_refusal}
 use Rattle.geometry.proofs.Bounds.{entry_left, some_pages, few_pages}
 use Rattle.image_laws.proofs.Serving.{ceil-enough}
 use Rattle.folder_core.specs.Files.{Entry}
 use Rattle.image_make.specs.declared.refusing.Refusal.{Refusal}
 use Rattle.image_make.specs.declared.refusing.Refusal.TheVariants.{BadNames, Full}
-use Rattle.image_make.specs.Refusals.{first_bad, index_sum, data_sum, fits, make_refusal}
+use Rattle.image_make.specs.Refusals.{first_bad, index_sum, data_sum, make_refusal}
 use Rattle.folder_size.specs.declared.told.Shape.{Shape}
-use Rattle.folder_size.specs.declared.told.Need.{Need}
-use Rattle.folder_size.specs.declared.told.Need.TheVariants.{Blocks, BadName, TooMany, NoVolume}
+use Rattle.folder_size.specs.declared.told.Need.TheVariants.{Blocks, TooMany}
 use Rattle.folder_size.specs.Needs.{HasShape, written_refusal, IsLeast, IsBadName, IsNever, IsNeed, blocks_needed, most_blocks, need_by, need_for}
-use Rattle.folder_size.proofs.Numbers.{IsVolumeOf, kept, not_refused, per_block-is, entries-is, few_usable}
+use Rattle.folder_size.proofs.Numbers.{kept, not_refused, per_block-is, entries-is, few_usable}
 use Rattle.folder_size.proofs.Shapes.{index-same, data-same, entries-same, needs-same, Tells, tells, by_names, with_room, without_room}
 
 -- ---- arithmetic

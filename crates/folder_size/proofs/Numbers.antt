@@ -1,5 +1,5 @@
 -- Which numbers of blocks make a volume of a shape that can be written.
-use Rattle.std.proofs.Common.{◌≡◌, ◌≢◌, ℕ, ◌+◌, ◌-◌, ◌*◌, ◌/◌, ◌<◌, ◌≤◌, Bool, true, false, not, Option, Some, None, refl, sym, ◌∙◌, ap, arith}
+use Rattle.std.proofs.Common.{◌≡◌, ◌≢◌, ℕ, ◌*◌, ◌≤◌, Bool, true, false, not, Option, Some, None, refl, sym, ◌∙◌, ap, arith}
 use Rattle.std.specs.Prelude.{nat_lt, if◌then◌else◌}
 use Rattle.std.specs.Option.{option_or}
 use Rattle.std.proofs.Math.Nat.{mul-le-mul_right}
@@ -133,6 +133,6 @@ refused_before shape n why is = ap (λ (o : Option GeoErr). option_or o (usable_
 pub few_usable : (usable blocks : ℕ) → usable_refusal usable blocks ≡ None → usable ≤ 32766
 few_usable usable blocks is = few_by usable (nat_lt 32766 usable) (nat_lt blocks 4) refl is
   where
-  few_by : (usable : ℕ) (many four : Bool) → nat_lt 32766 usable ≡ many → (if many then Some TooManyUsable else if four then Some TooFewToWrite else None) ≡ None → usable ≤ 32766
-  few_by usable true four at is = absurd (none-some TooManyUsable (sym is))
-  few_by usable false four at is = ltb-false 32766 usable at
+    few_by : (usable : ℕ) (many four : Bool) → nat_lt 32766 usable ≡ many → (if many then Some TooManyUsable else if four then Some TooFewToWrite else None) ≡ None → usable ≤ 32766
+    few_by usable true four at is = absurd (none-some TooManyUsable (sym is))
+    few_by usable false four at is = ltb-false 32766 usable at

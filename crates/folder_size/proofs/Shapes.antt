@@ -1,9 +1,8 @@
 -- Volumes of one shape take the same pages for the same files.
 use Rattle.std.proofs.Common.{◌≡◌, ℕ, ◌+◌, ◌-◌, ◌/◌, List, Bool, true, false, Option, Some, None, refl, sym, ◌∙◌, ap}
-use Rattle.std.specs.Prelude.{nat_lt, nat_le, sum_by, if◌then◌else◌}
+use Rattle.std.specs.Prelude.{nat_lt, sum_by, if◌then◌else◌}
 use Rattle.geometry.specs.declared.geometry.Geometry.{Geometry}
 use Rattle.geometry.specs.Numbers.{ceil, entries}
-use Rattle.table_model.specs.Room.{index_pages, data_pages}
 use Rattle.folder_core.specs.Files.{Entry}
 use Rattle.image_make.specs.declared.refusing.Refusal.{Refusal}
 use Rattle.image_make.specs.declared.refusing.Refusal.TheVariants.{BadNames, Full}

@@ -1,4 +1,4 @@
-use Rattle.std.proofs.Common.{◌+◌, sym, ◌∙◌, arith}
+use Rattle.std.proofs.Common.{sym, ◌∙◌, arith}
 use Rattle.file_room.proofs.Growing.{some_whole, whole-fails}
 use Rattle.file_room.proofs.Putting.{most_is, none_is}
 use Rattle.file_room.proofs.largest.largest_file.Goals as goal

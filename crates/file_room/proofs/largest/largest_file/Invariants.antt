@@ -1,5 +1,5 @@
 -- A file of `fits` bytes has room, and one of `over` bytes has none.
-use Rattle.std.proofs.Common.{◌≡◌, ℕ, ◌-◌, ◌<◌, true, false}
+use Rattle.std.proofs.Common.{◌≡◌, ◌-◌, ◌<◌, true, false}
 use Rattle.file_room.specs.Fitting.{has_room_for}
 use Rattle.file_room.proofs.largest.largest_file.Given as goal
 
