@@ -28,11 +28,11 @@ abbrev pub scratch : List ℕ
 scratch = 1 ∷ []
 
 -- a name that a file can have beside one that is being written
-abbrev pub is_free : List ℕ → Bool
+unfoldable pub is_free : List ℕ → Bool
 is_free name = not (is_bad_name name) && not (is_text name scratch)
 
 -- a file can be put under a name: both it and its working name are such
-abbrev pub can_put : List ℕ → Bool
+unfoldable pub can_put : List ℕ → Bool
 can_put name = is_free name && is_free (working name)
 
 -- the command of the top call that does what a word asks

@@ -101,6 +101,7 @@ pub fn make_working(name: &mut [u8])
 }
 
 // Whether a file can have a name beside one that is being written: it isn't empty, holds no zero byte and isn't `SCRATCH`.
+#[tactic(auto, unfolding(crate::specs::Scripts::is_free))]
 fn is_free(name: &[u8]) -> bool
     ensures { result ≡ the_free name.now }
 {
@@ -108,8 +109,9 @@ fn is_free(name: &[u8]) -> bool
 }
 
 /// Whether a file can be put under a name: it and its working name aren't empty, hold no zero byte and aren't `SCRATCH`.
+#[tactic(auto, using(crate::proofs::Working::put_by, crate::proofs::Working::free_some))]
 pub fn can_be_put(name: &[u8]) -> bool
     ensures { result ≡ can_put name.now }
 {
-    is_free(name) && !matches!(name, [128, ..] | [129])
+    is_free(name) && name[0] != 128 && !is(name, b"\x81")
 }
