@@ -109,9 +109,12 @@ fn is_free(name: &[u8]) -> bool
 }
 
 /// Whether a file can be put under a name: it and its working name aren't empty, hold no zero byte and aren't `SCRATCH`.
-#[tactic(auto, using(crate::proofs::Working::put_by, crate::proofs::Working::free_some))]
+#[tactic(auto, using(crate::proofs::Working::put_by, crate::proofs::Working::put_not, crate::proofs::Working::free_some))]
 pub fn can_be_put(name: &[u8]) -> bool
     ensures { result ≡ can_put name.now }
 {
-    is_free(name) && name[0] != 128 && !is(name, b"\x81")
+    if !is_free(name) {
+        return false;
+    }
+    name[0] != 128 && !is(name, b"\x81")
 }
