@@ -126,10 +126,11 @@ impl<R: Files + Drop> TreeFiles<R> {
             Err(why) if self.makes && why.kind() == ErrorKind::NotFound => Listed::none(self.alloc),
             other => other?,
         };
-        match self.listed.try_replace(listed) {
-            Ok(_) => Ok(()),
-            Err(_) => Err(is_lent()),
-        }
+        let Ok(mut known) = self.listed.try_borrow_mut() else {
+            return Err(is_lent());
+        };
+        *known = listed;
+        Ok(())
     }
 
     // The entries of all files, spelled.

@@ -1,18 +1,17 @@
 //! The word `cat`: the bytes of a file on standard output.
 use crate::give::{
-    Guard, chip_file, end_told, explain_image, give_on, print_bytes, trouble_of,
+    Guard, chip_file, end_told, explain_image, give_on, print_bytes, row_of, trouble_of,
 };
 use crate::look::geometry_of;
 use crate::meant::{Meant, text_of};
 use crate::stop::Stop;
 use crate::{BOARD_FAULT, DAMAGED, Memory, REFUSED, Refusal, take_memory};
 use chip_row::ChipRow;
-use front_edge::{HostChip, PartChip};
+use front_edge::HostChip;
 use front_words::{Word, place, top_words};
 use geometry::Geometry;
-use host_edge::{Access, FileChip, StdFolder};
+use host_edge::{Access, StdFolder};
 use nor_core::Nor;
-use std::alloc::AllocError;
 use table_model::{FsErr, Stat};
 use tree_paths::decoded;
 use vol_mount::{Lent, Reader, accept};
@@ -111,21 +110,6 @@ fn print_in<C: HostChip>(
     print_on(rt, &g, name, row, lent)
 }
 
-// The row of the image's file alone.
-fn row_of(
-    rt: &HostRuntime,
-    meant: &Meant<'_>,
-) -> Result<ChipRow<PartChip<FileChip>>, Refusal> {
-    let mut chips = Vec::new(rt.alloc());
-    chips
-        .push(chip_file(rt, meant, Access::Read))
-        .map_err(AllocError::from)?;
-    match ChipRow::new(chips, meant.size, meant.unit) {
-        Ok(row) => Ok(row),
-        Err(_) => Err(Refusal::Chips),
-    }
-}
-
 // Ends where the volume isn't mounted, as a list of it does.
 fn end_unmounted(
     rt: &HostRuntime,
@@ -133,8 +117,8 @@ fn end_unmounted(
     memory: &mut Memory,
 ) -> Result<u8, Refusal> {
     let mut folder = StdFolder::unlisted(rt, rt.alloc());
-    let chip = chip_file(rt, meant, Access::Read);
-    let told = give_on(rt, meant, chip, b"", &mut folder, memory, Guard::Open)?;
+    let row = row_of(rt, meant, chip_file(rt, meant, Access::Read))?;
+    let told = give_on(rt, meant, row, b"", &mut folder, memory, Guard::Open)?;
     if matches!(told.status, 0 | DAMAGED) {
         return Ok(BOARD_FAULT);
     }
@@ -147,7 +131,7 @@ pub fn cat(rt: &HostRuntime, meant: &mut Meant<'_>) -> Result<u8, Stop> {
     let given = text_of(place(meant.words, 2));
     let name = decoded(rt.alloc(), given.as_bytes())?;
     let mut memory = take_memory(rt, &meant.top)?;
-    let mut row = row_of(rt, meant)?;
+    let mut row = row_of(rt, meant, chip_file(rt, meant, Access::Read))?;
     match print_in(rt, meant, name.as_slice(), &mut row, &mut memory) {
         Some(Printed::Whole) => Ok(0),
         Some(Printed::Missing) => {

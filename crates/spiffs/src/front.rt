@@ -1,15 +1,13 @@
 //! Words of other tools: what a line means that begins with no command of the top call, and which part does it.
 use crate::cat::cat;
-use crate::give::{Guard, chip_copy, chip_file, end_told, give_on, print_bytes};
+use crate::give::{Guard, chip_copy, chip_file, end_told, give_on, row_of};
 use crate::meant::{Meant, find_meant};
-use crate::script::{change, remove_script, rename_script};
 use crate::stop::Stop;
-use crate::store::put;
+use crate::store::{put, remove, rename};
 use crate::trees::{pack, unpack};
 use crate::usage::wrong_word;
 use crate::{Refusal, USAGE, take_memory, tell};
-use folder_core::{Folder, MemFolder};
-use front_words::{Asked, Refusal as LineRefusal, Word, place, read_line};
+use front_words::{Asked, Refusal as LineRefusal, Word, read_line};
 use host_edge::{Access, StdFolder};
 
 // Says why a line is refused, behind the closing line of a faulty command line.
@@ -37,9 +35,9 @@ fn refuse_word(rt: &HostRuntime, name: &str) -> u8 {
 // Lists the files of the volume. Nothing is written.
 fn list(rt: &HostRuntime, meant: &Meant<'_>) -> Result<u8, Stop> {
     let mut memory = take_memory(rt, &meant.top)?;
-    let chip = chip_file(rt, meant, Access::Read);
+    let row = row_of(rt, meant, chip_file(rt, meant, Access::Read))?;
     let mut folder = StdFolder::unlisted(rt, rt.alloc());
-    let told = give_on(rt, meant, chip, b"", &mut folder, &mut memory, Guard::Open)?;
+    let told = give_on(rt, meant, row, b"", &mut folder, &mut memory, Guard::Open)?;
     Ok(end_told(rt, meant, &told))
 }
 
@@ -48,25 +46,13 @@ fn check(rt: &HostRuntime, meant: &Meant<'_>) -> Result<u8, Stop> {
     let mut memory = take_memory(rt, &meant.top)?;
     let mut folder = StdFolder::unlisted(rt, rt.alloc());
     if meant.asked.repairs && !meant.asked.is_dry {
-        let chip = chip_file(rt, meant, Access::Write);
-        let told = give_on(rt, meant, chip, b"", &mut folder, &mut memory, Guard::Removes)?;
+        let row = row_of(rt, meant, chip_file(rt, meant, Access::Write))?;
+        let told = give_on(rt, meant, row, b"", &mut folder, &mut memory, Guard::Removes)?;
         return Ok(end_told(rt, meant, &told));
     }
-    let chip = chip_copy(rt, meant)?;
-    let told = give_on(rt, meant, chip, b"", &mut folder, &mut memory, Guard::Foretells)?;
+    let row = row_of(rt, meant, chip_copy(rt, meant)?)?;
+    let told = give_on(rt, meant, row, b"", &mut folder, &mut memory, Guard::Foretells)?;
     Ok(end_told(rt, meant, &told))
-}
-
-// Removes files.
-fn remove(rt: &HostRuntime, meant: &Meant<'_>) -> Result<u8, Stop> {
-    let script = remove_script(rt.alloc(), meant.words)?;
-    change(rt, meant, &script)
-}
-
-// Renames a file.
-fn rename(rt: &HostRuntime, meant: &Meant<'_>) -> Result<u8, Stop> {
-    let script = rename_script(rt.alloc(), meant.words)?;
-    change(rt, meant, &script)
 }
 
 // Does what a line asks.
@@ -77,12 +63,12 @@ fn perform(rt: &HostRuntime, words: &[String], asked: Asked) -> Result<u8, Stop>
         Word::Picture => return Ok(refuse_word(rt, "picture")),
         _ => {}
     }
-    let meant = find_meant(rt, words, asked)?;
+    let mut meant = find_meant(rt, words, asked)?;
     match asked.word {
-        Word::Pack | Word::Gen => pack(rt, &meant),
-        Word::Unpack => unpack(rt, &meant),
+        Word::Pack | Word::Gen => pack(rt, &mut meant),
+        Word::Unpack => unpack(rt, &mut meant),
         Word::Fsck => check(rt, &meant),
-        Word::Cat => cat(rt, &meant),
+        Word::Cat => cat(rt, &mut meant),
         Word::Put => put(rt, &meant),
         Word::Rm => remove(rt, &meant),
         Word::Mv => rename(rt, &meant),

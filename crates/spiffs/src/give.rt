@@ -27,6 +27,8 @@ pub enum Guard {
     Removes,
     /// It is, since the command tells what would be removed.
     Foretells,
+    /// It is, since the command tries on a copy what removes damaged files for good.
+    Rehearses,
 }
 
 /// What became of a command.
@@ -78,8 +80,8 @@ pub fn explain_image(rt: &HostRuntime, meant: &Meant<'_>, trouble: Option<&Troub
     }
 }
 
-// A row of one chip.
-fn row_of<C: HostChip>(
+/// A row of one chip.
+pub fn row_of<C: HostChip>(
     rt: &HostRuntime,
     meant: &Meant<'_>,
     chip: C,
@@ -103,21 +105,21 @@ fn look<C: HostChip>(
     if guard == Guard::Open || !is_accepted(&meant.top, board.unit(), board.size(), &bufs) {
         return Ok(None);
     }
-    let removes = guard == Guard::Removes;
+    let removes = guard != Guard::Foretells;
     look_on(&meant.top, meant.asked.is_forced, removes, board, &mut bufs)
 }
 
-/// Gives the command of the top call that a line means, on a chip, with a script and a folder.
+/// Gives the command of the top call that a line means, on a row of one chip, with a script and a folder.
 pub fn give_on<C: HostChip, F: Folder>(
     rt: &HostRuntime,
     meant: &Meant<'_>,
-    chip: C,
+    row: ChipRow<C>,
     script: &[u8],
     folder: &mut F,
     memory: &mut Memory,
     guard: Guard,
 ) -> Result<Told<C>, Refusal> {
-    let mut board = StdBoard::new(row_of(rt, meant, chip)?, Vec::new(rt.alloc()));
+    let mut board = StdBoard::new(row, Vec::new(rt.alloc()));
     let looked = look(meant, guard, &mut board, memory);
     let seen = looked.unwrap_or(None);
     let status = if looked.is_err() {
@@ -151,10 +153,10 @@ pub fn explain_told<C: HostChip>(rt: &HostRuntime, meant: &Meant<'_>, told: &Tol
         OTHER_META => return,
         status => explain_status(rt, &meant.top, status),
     }
-    if told.guard == Guard::Foretells {
-        explain_damaged(rt, told.seen);
-    } else {
-        explain_removed(rt, told.seen, told.status);
+    match told.guard {
+        Guard::Open | Guard::Rehearses => {}
+        Guard::Removes => explain_removed(rt, told.seen, told.status),
+        Guard::Foretells => explain_damaged(rt, told.seen),
     }
     if told.status == NO_VOLUME {
         tell_found(rt, &meant.top);

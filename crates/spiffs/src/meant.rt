@@ -4,7 +4,7 @@ ghost use Rattle.volume_detect.specs.Words.{HasWords};
 
 use crate::detect::{CHECK, WORK, tell_found_in};
 use crate::stop::Stop;
-use crate::{BOARD_FAULT, NO_VOLUME, Refusal, USAGE, explain, tell};
+use crate::{BOARD_FAULT, NO_VOLUME, Refusal, USAGE, tell};
 use chip_row::Chip;
 use detect_tool::{blank_place, found_need};
 use front_edge::{HostChip, file_part};
@@ -50,10 +50,11 @@ pub fn text_of(word: Option<&[u8]>) -> &str {
     }
 }
 
-// Says why the image can't be used, and answers the status.
-fn stop_at(rt: &HostRuntime, image: &str, trouble: &Trouble) -> Stop {
-    let _said = eprintln!(rt; "spiffs: {image}: {trouble}");
-    Stop::Status(BOARD_FAULT)
+/// Says what failed of a file of the host, and answers that status.
+pub fn fail(rt: &HostRuntime, path: &str, trouble: &Trouble, status: u8) -> Stop {
+    // (if standard error fails too there is nobody to tell)
+    let _said = eprintln!(rt; "spiffs: {path}: {trouble}");
+    Stop::Status(status)
 }
 
 // How many bytes the image has. One that is to be made may be missing.
@@ -61,7 +62,7 @@ fn length_of(rt: &HostRuntime, image: &str, word: Word) -> Result<u64, Stop> {
     match fs::metadata(rt, image) {
         Ok(told) => Ok(told.len()),
         Err(_) if matches!(word, Word::Pack | Word::Gen) => Ok(0),
-        Err(why) => Err(stop_at(rt, image, &Trouble::Open(why))),
+        Err(why) => Err(fail(rt, image, &Trouble::Open(why), BOARD_FAULT)),
     }
 }
 
@@ -74,7 +75,7 @@ fn bytes_of(rt: &HostRuntime, image: &str, length: u32) -> Result<Vec<u8>, Stop>
     let mut part = file_part(rt, image, Access::Read, 0, length, 1);
     if let Err(Failed) = read_front(&mut part, &mut bytes) {
         if let Some(trouble) = part.trouble() {
-            return Err(stop_at(rt, image, trouble));
+            return Err(fail(rt, image, trouble, BOARD_FAULT));
         }
         return Err(Stop::Status(BOARD_FAULT));
     }
@@ -213,10 +214,4 @@ pub fn find_meant<'w>(
         size,
         unit,
     })
-}
-
-/// Says that something of the host failed, of which nothing is known but in words.
-pub fn fail(rt: &HostRuntime, trouble: &Trouble, status: u8) -> Stop {
-    explain(rt, Some(trouble));
-    Stop::Status(status)
 }

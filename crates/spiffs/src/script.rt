@@ -36,7 +36,6 @@ pub struct Script {
     text: Vec<u8>,
     /// What the reply to each line may be, over all scripts.
     pub mays: Vec<May>,
-    line: Vec<u8>,
 }
 
 /// A reply that a line may not have.

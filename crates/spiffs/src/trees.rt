@@ -1,5 +1,5 @@
 //! Folders in folders: `pack` makes an image of a tree, and `unpack` puts the files of an image into one.
-use crate::give::{Guard, Told, chip_file, end_told, give_on};
+use crate::give::{Guard, Told, chip_file, end_told, give_on, row_of};
 use crate::meant::{Meant, fail, text_of};
 use crate::stop::Stop;
 use crate::{BAD_NAME, BOARD_FAULT, FOLDER_FAULT, Memory, explain, take_memory};
@@ -110,17 +110,17 @@ pub fn pack(rt: &HostRuntime, meant: &mut Meant<'_>) -> Result<u8, Stop> {
     let tree = TreeFiles::new(rt, rt.alloc(), top, false)?;
     let mut folder = StdFolder::new(&tree, rt.alloc(), top)?;
     if meant.asked.is_dry {
-        let chip = blank_chip(rt.alloc(), meant.size, meant.unit)?;
-        let told = give_on(rt, meant, chip, b"", &mut folder, &mut memory, Guard::Open)?;
+        let row = row_of(rt, meant, blank_chip(rt.alloc(), meant.size, meant.unit)?)?;
+        let told = give_on(rt, meant, row, b"", &mut folder, &mut memory, Guard::Open)?;
         return Ok(end_pack(rt, meant, &tree, &folder, &told));
     }
     let access = access_of(meant, &mut memory);
-    let chip = chip_file(rt, meant, access);
-    let told = give_on(rt, meant, chip, b"", &mut folder, &mut memory, Guard::Open)?;
+    let row = row_of(rt, meant, chip_file(rt, meant, access))?;
+    let told = give_on(rt, meant, row, b"", &mut folder, &mut memory, Guard::Open)?;
     let status = end_pack(rt, meant, &tree, &folder, &told);
     if status == 0 {
         if let Err(why) = cut_off(rt, meant) {
-            return Err(fail(rt, &Trouble::Write(why), BOARD_FAULT));
+            return Err(fail(rt, meant.image, &Trouble::Write(why), BOARD_FAULT));
         }
     }
     Ok(status)
@@ -133,8 +133,8 @@ fn unpack_dry(
     memory: &mut Memory,
 ) -> Result<u8, Stop> {
     let mut folder = MemFolder::new(rt.alloc());
-    let chip = chip_file(rt, meant, Access::Read);
-    let told = give_on(rt, meant, chip, b"", &mut folder, memory, Guard::Open)?;
+    let row = row_of(rt, meant, chip_file(rt, meant, Access::Read))?;
+    let told = give_on(rt, meant, row, b"", &mut folder, memory, Guard::Open)?;
     Ok(end_told(rt, meant, &told))
 }
 
@@ -148,8 +148,8 @@ pub fn unpack(rt: &HostRuntime, meant: &mut Meant<'_>) -> Result<u8, Stop> {
     }
     let tree = TreeFiles::new(rt, rt.alloc(), top, true)?;
     let mut folder = StdFolder::new(&tree, rt.alloc(), top)?;
-    let chip = chip_file(rt, meant, Access::Read);
-    let told = give_on(rt, meant, chip, b"", &mut folder, &mut memory, Guard::Open)?;
+    let row = row_of(rt, meant, chip_file(rt, meant, Access::Read))?;
+    let told = give_on(rt, meant, row, b"", &mut folder, &mut memory, Guard::Open)?;
     let status = end_told(rt, meant, &told);
     if status == FOLDER_FAULT {
         explain(rt, folder.trouble());
