@@ -1,4 +1,4 @@
-//! A part of a chip, as a chip of its own.
+//! A part of a chip file, as a chip of its own.
 ghost use Rattle.std.specs.Prelude.{[], ◌+◌, ◌<◌, ◌≤◌, ◌^◌, IfSome};
 
 use chip_row::{Chip, ChipState};
@@ -8,11 +8,10 @@ use nor_memory::MemChip;
 use std::fs::File;
 use std::rt::Files;
 
-/// So many bytes of a chip from a place on, as a chip with erase units of its own size. It tells no bytes. What isn't a whole number of
-/// units of the chip below can't be erased.
+/// So many bytes of a chip file from a place on, as a chip with erase units of its own size. It tells no bytes.
 #[derive(Drop)]
-pub struct PartChip<C: Chip> {
-    chip: C,
+pub struct PartChip {
+    chip: FileChip,
     first: u32,
     size: u32,
     unit: u32,
@@ -28,7 +27,7 @@ pub trait HostChip: Chip {
     fn trouble(&self) -> Option<&Trouble>;
 }
 
-impl HostChip for PartChip<FileChip> {
+impl HostChip for PartChip {
     fn trouble(&self) -> Option<&Trouble> {
         self.chip.trouble()
     }
@@ -37,22 +36,6 @@ impl HostChip for PartChip<FileChip> {
 impl HostChip for MemChip {
     fn trouble(&self) -> Option<&Trouble> {
         None
-    }
-}
-
-impl<C: Chip> PartChip<C> {
-    /// The part of `size` bytes, in erase units of `unit` bytes, that begins at byte `first` of the chip. Where the chip ends before it, each
-    /// call fails that reaches further.
-    pub fn new(chip: C, first: u32, size: u32, unit: u32) -> PartChip<C> {
-        PartChip {
-            chip,
-            first,
-            size,
-            unit,
-            last: 0,
-            reads: 0,
-            faults: 0,
-        }
     }
 }
 
@@ -65,23 +48,33 @@ fn common_power(one: u32, other: u32) -> u32 {
     both & both.wrapping_neg()
 }
 
-/// The part of a file that begins at byte `first`, as a chip of `size` bytes in erase units of `unit` bytes. A file that can't be opened
-/// makes each later call fail, and so does a part that ends past byte 2^32.
-pub fn file_part<R: Files<File = File>>(
-    rt: &R,
-    path: &str,
-    access: Access,
-    first: u32,
-    size: u32,
-    unit: u32,
-) -> PartChip<FileChip> {
-    let step = if first == 0 {
-        unit
-    } else {
-        common_power(first, unit)
-    };
-    let chip = FileChip::new(rt, path, access, first.saturating_add(size), step);
-    PartChip::new(chip, first, size, unit)
+impl PartChip {
+    /// The part of a file that begins at byte `first`, as a chip of `size` bytes in erase units of `unit` bytes. A file that can't be opened
+    /// makes each later call fail, and so does a part that ends past byte 2^32 - 1 where it reaches there.
+    pub fn new<R: Files<File = File>>(
+        rt: &R,
+        path: &str,
+        access: Access,
+        first: u32,
+        size: u32,
+        unit: u32,
+    ) -> PartChip {
+        let step = if first == 0 {
+            unit
+        } else {
+            common_power(first, unit)
+        };
+        let chip = FileChip::new(rt, path, access, first.saturating_add(size), step);
+        PartChip {
+            chip,
+            first,
+            size,
+            unit,
+            last: 0,
+            reads: 0,
+            faults: 0,
+        }
+    }
 }
 
 // Where in the chip so many bytes stand that begin at a place of a part of it, if they are all there, and there are some.
@@ -154,7 +147,7 @@ fn erase_part<C: Chip>(chip: &mut C, place: u64, count: u32) -> bool {
     erase_units(chip, place / unit, count / unit)
 }
 
-impl<C: Chip> ChipState for PartChip<C> {
+impl ChipState for PartChip {
     ghost tells = { λ _. ⊥ };
 
     ghost bytes = { λ _. [] };
@@ -172,7 +165,7 @@ impl<C: Chip> ChipState for PartChip<C> {
     ghost left_at = { λ _ _ _. ⊥ };
 }
 
-impl<C: Chip> Chip for PartChip<C> {
+impl Chip for PartChip {
     fn size(&self) -> u32 {
         self.size
     }

@@ -54,8 +54,5 @@ pub(crate) fn want_plain<R: Files>(rt: &R, path: &str) -> io::Result<()> {
     if fs::symlink_metadata(rt, path)?.is_file() {
         return Ok(());
     }
-    Err(Error::new(
-        ErrorKind::InvalidInput,
-        "it is no plain file any more",
-    ))
+    Err(Error::new(ErrorKind::InvalidInput, "it is no plain file any more"))
 }

@@ -82,12 +82,7 @@ impl Read for Names {
 impl<R: Files + Drop> TreeFiles<R> {
     /// The tree below a folder. Nothing is read yet. Where `makes` is set, a folder that isn't there counts as an empty one, and is made with
     /// the first file.
-    pub fn new(
-        rt: R,
-        alloc: Global,
-        top: &str,
-        makes: bool,
-    ) -> Result<TreeFiles<R>, AllocError> {
+    pub fn new(rt: R, alloc: Global, top: &str, makes: bool) -> Result<TreeFiles<R>, AllocError> {
         Ok(TreeFiles {
             rt,
             alloc,

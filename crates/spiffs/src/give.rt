@@ -9,8 +9,8 @@ use crate::{
 };
 use chip_row::ChipRow;
 use folder_core::Folder;
-use front_edge::{CopyErr, HostChip, PartChip, copy_of, file_part};
-use host_edge::{Access, FileChip, StdBoard, StdSource, Trouble};
+use front_edge::{CopyErr, HostChip, PartChip, copy_of};
+use host_edge::{Access, StdBoard, StdSource, Trouble};
 use nor_core::{Failed, Nor};
 use nor_memory::MemChip;
 use std::alloc::AllocError;
@@ -47,8 +47,8 @@ pub struct Told<C: HostChip> {
 }
 
 /// The part of the image's file that the volume is.
-pub fn chip_file(rt: &HostRuntime, meant: &Meant<'_>, access: Access) -> PartChip<FileChip> {
-    file_part(
+pub fn chip_file(rt: &HostRuntime, meant: &Meant<'_>, access: Access) -> PartChip {
+    PartChip::new(
         rt,
         meant.image,
         access,

@@ -7,7 +7,7 @@ use crate::stop::Stop;
 use crate::{BOARD_FAULT, NO_VOLUME, Refusal, USAGE, tell};
 use chip_row::Chip;
 use detect_tool::{blank_place, found_need};
-use front_edge::{HostChip, file_part};
+use front_edge::{HostChip, PartChip};
 use front_words::{
     Asked, Candidate, Unsettled, Volume, Word, image_word, settle, top_words, wants_detect,
 };
@@ -72,7 +72,7 @@ fn bytes_of(rt: &HostRuntime, image: &str, length: u32) -> Result<Vec<u8>, Stop>
     if bytes.is_empty() {
         return Ok(bytes);
     }
-    let mut part = file_part(rt, image, Access::Read, 0, length, 1);
+    let mut part = PartChip::new(rt, image, Access::Read, 0, length, 1);
     if let Err(Failed) = read_front(&mut part, &mut bytes) {
         if let Some(trouble) = part.trouble() {
             return Err(fail(rt, image, trouble, BOARD_FAULT));

@@ -70,6 +70,9 @@ fn judge<C: HostChip>(
             return Err(refuse(rt, call, why));
         }
         if told.status == 0 {
+            let reply = str::from_utf8(refused.reply).unwrap_or("");
+            let call = str::from_utf8(refused.call).unwrap_or("");
+            let _said = eprintln!(rt; "spiffs: {call}: {reply}");
             return Err(Stop::Status(BOARD_FAULT));
         }
     }
@@ -95,8 +98,9 @@ fn run_all<C: HostChip>(
     for (i, text) in script.texts.as_slice().iter().enumerate() {
         let guard = if i == 0 { guard } else { Guard::Open };
         let told = give_on(rt, meant, row, text.as_slice(), &mut folder, memory, guard)?;
-        judge(rt, meant, text.as_slice(), &told, mays)?;
-        mays = mays.get(count_lines(text.as_slice())..).unwrap_or(&[]);
+        let (own, behind) = mays.split_at(count_lines(text.as_slice()).min(mays.len()));
+        judge(rt, meant, text.as_slice(), &told, own)?;
+        mays = behind;
         first = first.or(told.seen);
         row = told.row;
     }
