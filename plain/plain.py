@@ -38,8 +38,7 @@ class Package:
 
 PACKAGES = [
     Package("liverymenhir", ["volume", "wear_scrub"], exported=["volume", "nor_core"], no_std=True),
-    # (the last four are for what is to come)
-    Package("spiffs", ["spiffs", "tree_paths", "front_words", "file_room", "folder_size"]),
+    Package("spiffs", ["spiffs"]),
     Package("script_rows", ["script_rows"]),
     Package("image_explain", ["image_explain"]),
     Package("plain_tests", ["host_tests", "firmware_example"]),

@@ -12,9 +12,9 @@ use volume_detect::words_need;
 use volume_rank::Found;
 
 /// Bytes of work and of marks that are lent: enough for every volume.
-const WORK: usize = 557_056;
+pub const WORK: usize = 557_056;
 
-const CHECK: usize = 65_535;
+pub const CHECK: usize = 65_535;
 
 /// The memory that is lent to `detect_tool`.
 #[derive(Drop)]
@@ -99,20 +99,25 @@ pub fn detect_on<W: Write + Drop>(
     Ok(detect_tool(words, board, &mut lent))
 }
 
-// Says on standard error what the command says of the chip files of another command.
-fn say_found(rt: &HostRuntime, words: &[String]) -> Result<u8, Refusal> {
-    let mut board = detect_board(rt, words, rt.stderr())?;
+// Says on standard error what the command says of the chip files of these names.
+fn say_found(rt: &HostRuntime, names: &str) -> Result<u8, Refusal> {
     let mut own = Vec::new(rt.alloc());
-    for word in ["detect", chip_word(words)] {
+    for word in ["detect", names] {
         own.push(String::from_str(rt.alloc(), word)?)
             .map_err(AllocError::from)?;
     }
+    let mut board = detect_board(rt, &own, rt.stderr())?;
     detect_on(rt, &own, &mut board)
+}
+
+/// Says on standard error what the command says of the chip files of these names; nothing where there is no memory for it.
+pub fn tell_found_in(rt: &HostRuntime, names: &str) {
+    match say_found(rt, names) {
+        Ok(_) | Err(Refusal::Memory | Refusal::Chips) => {}
+    }
 }
 
 /// Says on standard error what the command says of the chip files of another command; nothing where there is no memory for it.
 pub fn tell_found(rt: &HostRuntime, words: &[String]) {
-    match say_found(rt, words) {
-        Ok(_) | Err(Refusal::Memory | Refusal::Chips) => {}
-    }
+    tell_found_in(rt, chip_word(words));
 }

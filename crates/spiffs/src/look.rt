@@ -63,8 +63,8 @@ fn number(words: &[String], at: usize) -> Option<u32> {
     u32::try_from(number).ok()
 }
 
-// The numbers of the volume.
-fn geometry_of(words: &[String]) -> Option<Geometry> {
+/// The numbers of the volume.
+pub fn geometry_of(words: &[String]) -> Option<Geometry> {
     let page = number(words, 1)?;
     let block = number(words, 2)?;
     let blocks = number(words, 3)?;

@@ -4,11 +4,19 @@
 //! looks whether another META reads more whole files, and then it writes nothing.
 #![tactic(auto)]
 
+mod cat;
 mod copying;
 mod detect;
+mod front;
+mod give;
 mod help;
 mod look;
+mod meant;
+mod script;
+mod stop;
+mod store;
 mod trace;
+mod trees;
 mod usage;
 mod words;
 
@@ -16,6 +24,8 @@ use chip_row::ChipRow;
 use copying::begin_copy;
 use detect::{detect_board, detect_on, tell_found};
 use fd_table::FdSlot;
+use front::begin_front;
+use front_words::is_own;
 use help::{HELP, VERSION};
 use host_edge::{Access, FileChip, StdBoard, StdFolder, StdSource, Trouble};
 use look::{Seen, look_before};
@@ -54,11 +64,17 @@ const SCRIPT_FAULT: u8 = 8;
 /// The status where the folder failed.
 const FOLDER_FAULT: u8 = 9;
 
+/// The status where damaged ids were found.
+const DAMAGED: u8 = 12;
+
 /// The status where a name of the folder is no file's.
 const BAD_NAME: u8 = 13;
 
 /// The status where another META reads more whole files.
 const OTHER_META: u8 = 23;
+
+/// The status where a word of the front asks for a call that is refused.
+const REFUSED: u8 = 25;
 
 /// The most bytes of work that are lent: enough for every volume.
 const MOST_WORK: usize = 1_048_576;
@@ -443,6 +459,16 @@ fn without_force(words: &[String]) -> (&[String], bool) {
     }
 }
 
+// Begins a command of the top call, or a line of the front.
+fn begin_either(rt: &HostRuntime, words: &[String]) -> Result<u8, Refusal> {
+    if is_own(words) {
+        let (words, is_forced) = without_force(words);
+        begin(rt, words, is_forced)
+    } else {
+        begin_front(rt, words)
+    }
+}
+
 fn start(rt: &HostRuntime) -> u8 {
     let words = match words_of(rt) {
         Ok(words) => words,
@@ -458,8 +484,7 @@ fn start(rt: &HostRuntime) -> u8 {
     if words.len() == 1 && words[0].as_str() == "--version" {
         return tell(rt, VERSION, 0);
     }
-    let (words, is_forced) = without_force(&words);
-    match begin(rt, words, is_forced) {
+    match begin_either(rt, &words) {
         Ok(status) => status,
         Err(Refusal::Memory) => tell(rt, "! memory\n", 15),
         Err(Refusal::Chips) => tell(rt, "! chips\n", 22),

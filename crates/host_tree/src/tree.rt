@@ -1,0 +1,234 @@
+//! A tree shown as one flat folder.
+use crate::listing::{Known, Listed, full_path, list};
+use crate::making::{make_folders, want_plain};
+use std::alloc::{AllocError, Allocator, Global};
+use std::cell::RefCell;
+use std::fs::{Files, Metadata, OpenOptions};
+use std::io;
+use std::io::{Error, ErrorKind, Read};
+use tree_paths::{decoded, is_clash, path_of, push_spelled};
+
+/// The files of a tree of folders of the host, as a host that has one folder: the folder `top`. Its entries are the spelled names that the
+/// tree's plain files have on a volume. A file that is made there is put where `tree_paths::path_of` says, aside if its name clashes
+/// with that of another, and folders are made on the way. Only reading a folder, opening a file and telling of it are done.
+#[derive(Drop)]
+pub struct TreeFiles<R: Files + Drop> {
+    rt: R,
+    alloc: Global,
+    top: String,
+    makes: bool,
+    listed: RefCell<Listed>,
+}
+
+/// The names of a folder, each ended by a zero byte.
+#[derive(Drop)]
+pub struct Names {
+    left: Vec<String>,
+}
+
+// Why the list of files can't be had, which never happens: no call is made from within another.
+fn is_lent() -> Error {
+    Error::from(ErrorKind::ResourceBusy)
+}
+
+fn unsupported() -> Error {
+    Error::from(ErrorKind::Unsupported)
+}
+
+// The last part of a path.
+fn last_part(path: &str) -> &str {
+    match path.rsplit_once('/') {
+        Some((_, name)) => name,
+        None => path,
+    }
+}
+
+// The path of the file with that name, if it is known.
+fn known_path<'f>(files: &'f [Known], name: &[u8]) -> Option<&'f str> {
+    for file in files {
+        if file.name.as_slice() == name {
+            return Some(file.path.as_str());
+        }
+    }
+    None
+}
+
+// Whether a name can't be put into the tree beside the files that are there.
+fn clashes(files: &[Known], name: &[u8]) -> bool {
+    for file in files {
+        if is_clash(name, file.name.as_slice()) {
+            return true;
+        }
+    }
+    false
+}
+
+impl Read for Names {
+    fn read(&mut self, into: &mut [u8]) -> io::Result<usize> {
+        let Some(name) = self.left.pop() else {
+            return Ok(0);
+        };
+        let bytes = name.as_bytes();
+        if bytes.len() >= into.len() {
+            return Err(Error::from(ErrorKind::InvalidFilename));
+        }
+        let end = bytes.len();
+        into[..end].copy_from_slice(bytes);
+        into[end] = 0;
+        Ok(end + 1)
+    }
+}
+
+impl<R: Files + Drop> TreeFiles<R> {
+    /// The tree below a folder. Nothing is read yet. Where `makes` is set, a folder that isn't there counts as an empty one, and is made with
+    /// the first file.
+    pub fn new(rt: R, alloc: Global, top: &str, makes: bool) -> Result<TreeFiles<R>, AllocError> {
+        Ok(TreeFiles {
+            rt,
+            alloc,
+            top: String::from_str(alloc, top)?,
+            makes,
+            listed: RefCell::new(Listed::none(alloc)),
+        })
+    }
+
+    /// The path that the host opens of the file with such an entry, if there is one.
+    pub fn host_path(&self, entry: &str) -> io::Result<String> {
+        let name = decoded(self.alloc, last_part(entry).as_bytes())?;
+        let Ok(listed) = self.listed.try_borrow() else {
+            return Err(is_lent());
+        };
+        match known_path(listed.files.as_slice(), name.as_slice()) {
+            Some(path) => Ok(String::from_str(self.alloc, path)?),
+            None => Err(Error::from(ErrorKind::NotFound)),
+        }
+    }
+
+    /// The path of what was passed over, by its number in the order in which the host told it.
+    pub fn passed_over(&self, number: usize) -> io::Result<Option<String>> {
+        let Ok(listed) = self.listed.try_borrow() else {
+            return Err(is_lent());
+        };
+        match listed.passed_over.get(number) {
+            Some(passed) => Ok(Some(String::from_str(self.alloc, passed.path.as_str())?)),
+            None => Ok(None),
+        }
+    }
+
+    // Lists the tree.
+    fn list_anew(&self) -> io::Result<()> {
+        let listed = match list(&self.rt, self.alloc, self.top.as_str()) {
+            Err(why) if self.makes && why.kind() == ErrorKind::NotFound => Listed::none(self.alloc),
+            other => other?,
+        };
+        let Ok(mut known) = self.listed.try_borrow_mut() else {
+            return Err(is_lent());
+        };
+        *known = listed;
+        Ok(())
+    }
+
+    // The entries of all files, spelled.
+    fn entries(&self) -> io::Result<Vec<String>> {
+        let Ok(listed) = self.listed.try_borrow() else {
+            return Err(is_lent());
+        };
+        let mut entries = Vec::new(self.alloc);
+        for file in listed.files.as_slice() {
+            let mut entry = String::new(self.alloc);
+            push_spelled(&mut entry, file.name.as_slice())?;
+            entries.push(entry)?;
+        }
+        Ok(entries)
+    }
+
+    // The path of a file that is made with that name.
+    fn new_path(&self, name: &[u8]) -> io::Result<String> {
+        let Ok(listed) = self.listed.try_borrow() else {
+            return Err(is_lent());
+        };
+        let is_aside = clashes(listed.files.as_slice(), name);
+        let path = path_of(self.alloc, name, is_aside)?;
+        Ok(full_path(self.alloc, self.top.as_str(), path.as_str())?)
+    }
+
+    // Notes a file that was made.
+    fn know(&self, name: Vec<u8>, path: String) -> io::Result<()> {
+        let Ok(mut listed) = self.listed.try_borrow_mut() else {
+            return Err(is_lent());
+        };
+        listed.files.push(Known { name, path })?;
+        Ok(())
+    }
+
+    // Makes the file of an entry.
+    fn make(&self, how: &OpenOptions, entry: &str) -> io::Result<R::File> {
+        let name = decoded(self.alloc, last_part(entry).as_bytes())?;
+        let path = self.new_path(name.as_slice())?;
+        make_folders(&self.rt, self.top.as_str(), path.as_str())?;
+        let file = self.rt.open_file(how, path.as_str())?;
+        self.know(name, path)?;
+        Ok(file)
+    }
+
+    // Opens the file of an entry that is there.
+    fn open_known(&self, how: &OpenOptions, entry: &str) -> io::Result<R::File> {
+        let path = self.host_path(entry)?;
+        want_plain(&self.rt, path.as_str())?;
+        self.rt.open_file(how, path.as_str())
+    }
+}
+
+impl<R: Files + Drop> Files for TreeFiles<R> {
+    type File = R::File;
+
+    type Dir = Names;
+
+    fn open_file(&self, how: &OpenOptions, path: &str) -> io::Result<R::File> {
+        if how.asks_create_new() {
+            self.make(how, path)
+        } else {
+            self.open_known(how, path)
+        }
+    }
+
+    fn open_dir(&self, _path: &str) -> io::Result<Names> {
+        self.list_anew()?;
+        Ok(Names {
+            left: self.entries()?,
+        })
+    }
+
+    fn metadata(&self, path: &str) -> io::Result<Metadata> {
+        self.symlink_metadata(path)
+    }
+
+    fn symlink_metadata(&self, path: &str) -> io::Result<Metadata> {
+        let path = self.host_path(path)?;
+        self.rt.symlink_metadata(path.as_str())
+    }
+
+    fn copy(&self, _from: &str, _to: &str) -> io::Result<u64> {
+        Err(unsupported())
+    }
+
+    fn rename(&self, _from: &str, _to: &str) -> io::Result<()> {
+        Err(unsupported())
+    }
+
+    fn remove_file(&self, _path: &str) -> io::Result<()> {
+        Err(unsupported())
+    }
+
+    fn create_dir(&self, _path: &str) -> io::Result<()> {
+        Err(unsupported())
+    }
+
+    fn remove_dir(&self, _path: &str) -> io::Result<()> {
+        Err(unsupported())
+    }
+
+    fn remove_dir_all<B: Allocator>(&self, _alloc: B, _path: &str) -> io::Result<()> {
+        Err(unsupported())
+    }
+}

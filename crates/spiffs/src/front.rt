@@ -1,0 +1,89 @@
+//! Words of other tools: what a line means that begins with no command of the top call, and which part does it.
+use crate::cat::cat;
+use crate::give::{Guard, chip_copy, chip_file, end_told, give_on, row_of};
+use crate::meant::{Meant, find_meant};
+use crate::stop::Stop;
+use crate::store::{put, remove, rename};
+use crate::trees::{pack, unpack};
+use crate::usage::wrong_word;
+use crate::{Refusal, USAGE, take_memory, tell};
+use front_words::{Asked, Refusal as LineRefusal, Word, read_line};
+use host_edge::{Access, StdFolder};
+
+// Says why a line is refused, behind the closing line of a faulty command line.
+fn refuse_line(rt: &HostRuntime, words: &[String], why: LineRefusal) -> u8 {
+    let status = tell(rt, "! usage\n", USAGE);
+    match (why, wrong_word(words)) {
+        (LineRefusal::UnknownWord, Some(wrong)) => {
+            // (if standard error fails too there is nobody to tell)
+            let _said = eprintln!(rt; "spiffs: {wrong}; try spiffs --help");
+        }
+        _ => {
+            let _said = eprintln!(rt; "spiffs: {why}; try spiffs --help");
+        }
+    }
+    status
+}
+
+// Says that a word is known and not done here yet.
+fn refuse_word(rt: &HostRuntime, name: &str) -> u8 {
+    let status = tell(rt, "! usage\n", USAGE);
+    let _said = eprintln!(rt; "spiffs: {name} isn't done by this program yet");
+    status
+}
+
+// Lists the files of the volume. Nothing is written.
+fn list(rt: &HostRuntime, meant: &Meant<'_>) -> Result<u8, Stop> {
+    let mut memory = take_memory(rt, &meant.top)?;
+    let row = row_of(rt, meant, chip_file(rt, meant, Access::Read))?;
+    let mut folder = StdFolder::unlisted(rt, rt.alloc());
+    let told = give_on(rt, meant, row, b"", &mut folder, &mut memory, Guard::Open)?;
+    Ok(end_told(rt, meant, &told))
+}
+
+// Checks the volume: the file itself if it is to be mended, else a copy in memory.
+fn check(rt: &HostRuntime, meant: &Meant<'_>) -> Result<u8, Stop> {
+    let mut memory = take_memory(rt, &meant.top)?;
+    let mut folder = StdFolder::unlisted(rt, rt.alloc());
+    if meant.asked.repairs && !meant.asked.is_dry {
+        let row = row_of(rt, meant, chip_file(rt, meant, Access::Write))?;
+        let told = give_on(rt, meant, row, b"", &mut folder, &mut memory, Guard::Removes)?;
+        return Ok(end_told(rt, meant, &told));
+    }
+    let row = row_of(rt, meant, chip_copy(rt, meant)?)?;
+    let told = give_on(rt, meant, row, b"", &mut folder, &mut memory, Guard::Foretells)?;
+    Ok(end_told(rt, meant, &told))
+}
+
+// Does what a line asks.
+fn perform(rt: &HostRuntime, words: &[String], asked: Asked) -> Result<u8, Stop> {
+    match asked.word {
+        Word::Df => return Ok(refuse_word(rt, "df")),
+        Word::Size => return Ok(refuse_word(rt, "size")),
+        Word::Picture => return Ok(refuse_word(rt, "picture")),
+        _ => {}
+    }
+    let mut meant = find_meant(rt, words, asked)?;
+    match asked.word {
+        Word::Pack | Word::Gen => pack(rt, &mut meant),
+        Word::Unpack => unpack(rt, &mut meant),
+        Word::Fsck => check(rt, &meant),
+        Word::Cat => cat(rt, &mut meant),
+        Word::Put => put(rt, &meant),
+        Word::Rm => remove(rt, &meant),
+        Word::Mv => rename(rt, &meant),
+        _ => list(rt, &meant),
+    }
+}
+
+/// Does what a line asks that begins with no command of the top call, and answers the status.
+pub fn begin_front(rt: &HostRuntime, words: &[String]) -> Result<u8, Refusal> {
+    let asked = match read_line(words) {
+        Ok(asked) => asked,
+        Err(why) => return Ok(refuse_line(rt, words, why)),
+    };
+    match perform(rt, words, asked) {
+        Ok(status) | Err(Stop::Status(status)) => Ok(status),
+        Err(Stop::Refusal(why)) => Err(why),
+    }
+}

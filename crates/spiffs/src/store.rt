@@ -1,0 +1,223 @@
+//! The words `put`, `rm` and `mv`, which change files of an image. Their whole script runs on a copy in memory first, and on the file only
+//! if no line of it is refused there.
+use crate::give::{
+    Guard, Told, chip_copy, chip_file, explain_told, give_on, print_bytes, row_of,
+};
+use crate::look::Seen;
+use crate::meant::{Meant, fail, text_of};
+use crate::script::{FileName, May, Script, count_lines, first_refused, reason_of};
+use crate::stop::Stop;
+use crate::{
+    BOARD_FAULT, FOLDER_FAULT, Memory, REFUSED, explain_damaged, explain_removed, take_memory,
+    tell,
+};
+use chip_row::ChipRow;
+use front_edge::HostChip;
+use front_words::{SCRATCH, can_be_put, make_working, place};
+use host_edge::{Access, StdFolder, Trouble};
+use std::alloc::{AllocError, Global};
+use std::{fs, str};
+use table_model::FsErr;
+use tree_paths::decoded;
+
+// Says why a name or a call is refused, and answers the status.
+fn refuse(rt: &HostRuntime, what: &str, why: FsErr) -> Stop {
+    let number = why.number();
+    let status = match format!(in rt.alloc(); "! refused {number}\n") {
+        Ok(line) => tell(rt, line.as_str(), REFUSED),
+        Err(_) => REFUSED,
+    };
+    // (if standard error fails too there is nobody to tell)
+    let _said = eprintln!(rt; "spiffs: {what}: {why}");
+    Stop::Status(status)
+}
+
+// These bytes as a file's name, which was given so.
+fn checked<'n>(rt: &HostRuntime, given: &str, bytes: &'n [u8]) -> Result<FileName<'n>, Stop> {
+    match FileName::new(bytes) {
+        Ok(name) => Ok(name),
+        Err(why) => Err(refuse(rt, given, why)),
+    }
+}
+
+// Says why a script is refused that ended with another status than 0.
+fn refuse_told<C: HostChip>(rt: &HostRuntime, meant: &Meant<'_>, told: &Told<C>) -> Stop {
+    // (the closing line is the last one; replies stand before it)
+    let mut last: &[u8] = b"";
+    for line in told.said.as_slice().split(|byte| *byte == b'\n') {
+        if line.starts_with(b"!") {
+            last = line;
+        }
+    }
+    if !last.is_empty() && !(print_bytes(rt, last) && print_bytes(rt, b"\n")) {
+        return Stop::Status(BOARD_FAULT);
+    }
+    explain_told(rt, meant, told);
+    Stop::Status(told.status)
+}
+
+// Refuses a script of which a reply isn't one that its line may have.
+fn judge<C: HostChip>(
+    rt: &HostRuntime,
+    meant: &Meant<'_>,
+    text: &[u8],
+    told: &Told<C>,
+    mays: &[May],
+) -> Result<(), Stop> {
+    if let Some(refused) = first_refused(text, told.said.as_slice(), mays) {
+        if let Some(why) = reason_of(refused.reply) {
+            let call = str::from_utf8(refused.call).unwrap_or("");
+            return Err(refuse(rt, call, why));
+        }
+        if told.status == 0 {
+            let reply = str::from_utf8(refused.reply).unwrap_or("");
+            let call = str::from_utf8(refused.call).unwrap_or("");
+            let _said = eprintln!(rt; "spiffs: {call}: {reply}");
+            return Err(Stop::Status(BOARD_FAULT));
+        }
+    }
+    if told.status == 0 {
+        return Ok(());
+    }
+    Err(refuse_told(rt, meant, told))
+}
+
+// Runs all scripts on a chip, and answers what the volume held before. Each reply has to be one that its line may have.
+fn run_all<C: HostChip>(
+    rt: &HostRuntime,
+    meant: &Meant<'_>,
+    row: ChipRow<C>,
+    script: &Script,
+    memory: &mut Memory,
+    guard: Guard,
+) -> Result<Option<Seen>, Stop> {
+    let mut folder = StdFolder::unlisted(rt, rt.alloc());
+    let mut row = row;
+    let mut first = None;
+    let mut mays = script.mays.as_slice();
+    for (i, text) in script.texts.as_slice().iter().enumerate() {
+        let guard = if i == 0 { guard } else { Guard::Open };
+        let told = give_on(rt, meant, row, text.as_slice(), &mut folder, memory, guard)?;
+        let (own, behind) = mays.split_at(count_lines(text.as_slice()).min(mays.len()));
+        judge(rt, meant, text.as_slice(), &told, own)?;
+        mays = behind;
+        first = first.or(told.seen);
+        row = told.row;
+    }
+    Ok(first)
+}
+
+// Runs the scripts on a copy in memory, and then on the file, unless that is only to be read.
+fn change(rt: &HostRuntime, meant: &Meant<'_>, script: &Script) -> Result<u8, Stop> {
+    let mut memory = take_memory(rt, &meant.top)?;
+    let copy = row_of(rt, meant, chip_copy(rt, meant)?)?;
+    let seen = run_all(rt, meant, copy, script, &mut memory, Guard::Rehearses)?;
+    if meant.asked.is_dry {
+        explain_damaged(rt, seen);
+        return Ok(0);
+    }
+    let file = row_of(rt, meant, chip_file(rt, meant, Access::Write))?;
+    run_all(rt, meant, file, script, &mut memory, Guard::Open)?;
+    explain_removed(rt, seen, 0);
+    Ok(0)
+}
+
+/// Removes the files that are named behind the image.
+pub fn remove(rt: &HostRuntime, meant: &Meant<'_>) -> Result<u8, Stop> {
+    let mut script = Script::new(rt.alloc());
+    for number in 2..usize::MAX {
+        let Some(given) = place(meant.words, number) else {
+            break;
+        };
+        let name = decoded(rt.alloc(), given)?;
+        script.remove(checked(rt, text_of(Some(given)), &name)?, May::Done)?;
+    }
+    script.end()?;
+    change(rt, meant, &script)
+}
+
+/// Gives a file another name.
+pub fn rename(rt: &HostRuntime, meant: &Meant<'_>) -> Result<u8, Stop> {
+    let given = text_of(place(meant.words, 2));
+    let wanted = text_of(place(meant.words, 3));
+    let old = decoded(rt.alloc(), given.as_bytes())?;
+    let new = decoded(rt.alloc(), wanted.as_bytes())?;
+    let mut script = Script::new(rt.alloc());
+    let old = checked(rt, given, &old)?;
+    let new = checked(rt, wanted, &new)?;
+    script.rename(old, new, May::Done)?;
+    script.end()?;
+    change(rt, meant, &script)
+}
+
+// The name under which a file is put: as it was given, else a slash and the last part of its path.
+fn target_of(alloc: Global, meant: &Meant<'_>, path: &str) -> Result<Vec<u8>, AllocError> {
+    if let Some(given) = place(meant.words, 3) {
+        return decoded(alloc, given);
+    }
+    let last = match path.rsplit_once('/') {
+        Some((_, last)) => last,
+        None => path,
+    };
+    let mut name = Vec::new(alloc);
+    name.push(b'/')?;
+    name.extend_from_slice(last.as_bytes())?;
+    Ok(name)
+}
+
+// The bytes of a host file that is to be put. One that is longer than the volume is refused before it is read.
+fn read_file(rt: &HostRuntime, meant: &Meant<'_>, path: &str) -> Result<Vec<u8>, Stop> {
+    let told = match fs::metadata(rt, path) {
+        Ok(told) => told,
+        Err(why) => return Err(fail(rt, path, &Trouble::Get(why), FOLDER_FAULT)),
+    };
+    if told.is_file() && told.len() > u64::from(meant.size) {
+        return Err(refuse(rt, path, FsErr::Full));
+    }
+    match fs::read(rt, path) {
+        Ok(bytes) => Ok(bytes),
+        Err(why) => Err(fail(rt, path, &Trouble::Get(why), FOLDER_FAULT)),
+    }
+}
+
+// The scripts that put a file. They bring back the old one where an earlier line of this kind was cut, write the new one beside it under
+// `SCRATCH`, and exchange them: until the new one has the name, the old one has it or its working name.
+fn put_script(
+    alloc: Global,
+    name: FileName<'_>,
+    working: FileName<'_>,
+    scratch: FileName<'_>,
+    bytes: &[u8],
+) -> Result<Script, AllocError> {
+    let mut script = Script::new(alloc);
+    script.rename(working, name, May::There)?;
+    script.remove(working, May::Missing)?;
+    script.remove(scratch, May::Missing)?;
+    script.fill(scratch, bytes)?;
+    script.rename(name, working, May::Missing)?;
+    script.rename(scratch, name, May::Done)?;
+    script.remove(working, May::Missing)?;
+    script.end()?;
+    Ok(script)
+}
+
+/// Puts a host file onto the volume, in the place of one with that name.
+pub fn put(rt: &HostRuntime, meant: &Meant<'_>) -> Result<u8, Stop> {
+    let path = text_of(place(meant.words, 2));
+    let target = target_of(rt.alloc(), meant, path)?;
+    let given = match place(meant.words, 3) {
+        Some(given) => text_of(Some(given)),
+        None => path,
+    };
+    let name = checked(rt, given, &target)?;
+    if !can_be_put(&target) {
+        return Err(refuse(rt, given, FsErr::BadName));
+    }
+    let mut turned = Vec::from_slice(rt.alloc(), &target)?;
+    make_working(&mut turned);
+    let working = checked(rt, given, &turned)?;
+    let scratch = checked(rt, given, SCRATCH)?;
+    let bytes = read_file(rt, meant, path)?;
+    let script = put_script(rt.alloc(), name, working, scratch, &bytes)?;
+    change(rt, meant, &script)
+}

@@ -1,0 +1,158 @@
+//! Folders in folders: `pack` makes an image of a tree, and `unpack` puts the files of an image into one.
+use crate::give::{Guard, Told, chip_file, end_told, give_on, row_of};
+use crate::meant::{Meant, fail, text_of};
+use crate::stop::Stop;
+use crate::{BAD_NAME, BOARD_FAULT, FOLDER_FAULT, Memory, explain, take_memory};
+use folder_core::{Folder, MemFolder};
+use front_edge::{HostChip, blank_chip};
+use front_words::{folder_word, push_word};
+use host_edge::{Access, BadName, StdFolder, Trouble};
+use host_tree::TreeFiles;
+use std::alloc::{AllocError, Global};
+use std::fs::OpenOptions;
+use std::io;
+use tool_core::is_accepted;
+
+// The name of a file in the folder of a tree's files, as it stands in the tree.
+fn bad_name_in<'f>(bad: BadName<'f>, path: &'f str, by: &'f str) -> BadName<'f> {
+    match bad {
+        BadName::Empty { .. } => BadName::Empty { path },
+        BadName::Zero { .. } => BadName::Zero { path },
+        BadName::Long { bytes, .. } => BadName::Long { path, bytes },
+        BadName::Taken { .. } => BadName::Taken { path, by },
+    }
+}
+
+// The entries of the folder that a bad name speaks of: its own, and that of the file that has the name already.
+fn entries_of<'f>(bad: &BadName<'f>) -> (&'f str, &'f str) {
+    match *bad {
+        BadName::Empty { path } | BadName::Zero { path } | BadName::Long { path, .. } => {
+            (path, path)
+        }
+        BadName::Taken { path, by } => (path, by),
+    }
+}
+
+// Says which file of a tree has a name that no file of a volume can have.
+fn explain_name(
+    rt: &HostRuntime,
+    tree: &TreeFiles<&HostRuntime>,
+    bad: BadName<'_>,
+) -> io::Result<()> {
+    let (entry, other) = entries_of(&bad);
+    let path = tree.host_path(entry)?;
+    let by = tree.host_path(other)?;
+    let told = bad_name_in(bad, path.as_str(), by.as_str());
+    eprintln!(rt; "spiffs: {told}")
+}
+
+// Says what of a tree was passed over.
+fn explain_passed(rt: &HostRuntime, tree: &TreeFiles<&HostRuntime>) -> io::Result<()> {
+    for number in 0..usize::MAX {
+        let Some(path) = tree.passed_over(number)? else {
+            return Ok(());
+        };
+        eprintln!(rt; "spiffs: {path}: a link or special file, passed over")?;
+    }
+    Ok(())
+}
+
+// Cuts the image's file off behind the volume.
+fn cut_off(rt: &HostRuntime, meant: &Meant<'_>) -> io::Result<()> {
+    let file = OpenOptions::new().write(true).open(rt, meant.image)?;
+    if file.metadata()?.len() > u64::from(meant.size) {
+        file.set_len(u64::from(meant.size))?;
+    }
+    Ok(())
+}
+
+// Ends a line that makes an image of a tree.
+fn end_pack<'r, C: HostChip>(
+    rt: &'r HostRuntime,
+    meant: &Meant<'_>,
+    tree: &TreeFiles<&'r HostRuntime>,
+    folder: &StdFolder<&TreeFiles<&'r HostRuntime>>,
+    told: &Told<C>,
+) -> u8 {
+    let status = end_told(rt, meant, told);
+    // (if standard error fails too there is nobody to tell)
+    let _said = explain_passed(rt, tree);
+    match (status, folder.bad_name()) {
+        (FOLDER_FAULT, _) => explain(rt, folder.trouble()),
+        (BAD_NAME, Some(bad)) => {
+            let _said = explain_name(rt, tree, bad);
+        }
+        _ => {}
+    }
+    status
+}
+
+// What the image's file is opened for: it is made where the line is accepted.
+fn access_of(meant: &Meant<'_>, memory: &mut Memory) -> Access {
+    if is_accepted(&meant.top, meant.unit, meant.size, &memory.lend()) {
+        Access::Create
+    } else {
+        Access::Write
+    }
+}
+
+// The line of the top call with the folder's name.
+fn with_folder(alloc: Global, meant: &mut Meant<'_>) -> Result<(), AllocError> {
+    let folder = text_of(folder_word(meant.words, &meant.asked));
+    push_word(alloc, &mut meant.top, folder)
+}
+
+/// Makes an image of the tree below a folder. What the file has behind the volume is cut off.
+pub fn pack(rt: &HostRuntime, meant: &mut Meant<'_>) -> Result<u8, Stop> {
+    with_folder(rt.alloc(), meant)?;
+    let top = text_of(folder_word(meant.words, &meant.asked));
+    let mut memory = take_memory(rt, &meant.top)?;
+    let tree = TreeFiles::new(rt, rt.alloc(), top, false)?;
+    let mut folder = StdFolder::new(&tree, rt.alloc(), top)?;
+    if meant.asked.is_dry {
+        let row = row_of(rt, meant, blank_chip(rt.alloc(), meant.size, meant.unit)?)?;
+        let told = give_on(rt, meant, row, b"", &mut folder, &mut memory, Guard::Open)?;
+        return Ok(end_pack(rt, meant, &tree, &folder, &told));
+    }
+    let access = access_of(meant, &mut memory);
+    let row = row_of(rt, meant, chip_file(rt, meant, access))?;
+    let told = give_on(rt, meant, row, b"", &mut folder, &mut memory, Guard::Open)?;
+    let status = end_pack(rt, meant, &tree, &folder, &told);
+    if status == 0 {
+        if let Err(why) = cut_off(rt, meant) {
+            return Err(fail(rt, meant.image, &Trouble::Write(why), BOARD_FAULT));
+        }
+    }
+    Ok(status)
+}
+
+// Tells what would be put into the tree.
+fn unpack_dry(
+    rt: &HostRuntime,
+    meant: &Meant<'_>,
+    memory: &mut Memory,
+) -> Result<u8, Stop> {
+    let mut folder = MemFolder::new(rt.alloc());
+    let row = row_of(rt, meant, chip_file(rt, meant, Access::Read))?;
+    let told = give_on(rt, meant, row, b"", &mut folder, memory, Guard::Open)?;
+    Ok(end_told(rt, meant, &told))
+}
+
+/// Puts the files of the volume into the tree below a folder, which is made if it isn't there.
+pub fn unpack(rt: &HostRuntime, meant: &mut Meant<'_>) -> Result<u8, Stop> {
+    with_folder(rt.alloc(), meant)?;
+    let top = text_of(folder_word(meant.words, &meant.asked));
+    let mut memory = take_memory(rt, &meant.top)?;
+    if meant.asked.is_dry {
+        return unpack_dry(rt, meant, &mut memory);
+    }
+    let tree = TreeFiles::new(rt, rt.alloc(), top, true)?;
+    let mut folder = StdFolder::new(&tree, rt.alloc(), top)?;
+    let row = row_of(rt, meant, chip_file(rt, meant, Access::Read))?;
+    let told = give_on(rt, meant, row, b"", &mut folder, &mut memory, Guard::Open)?;
+    let status = end_told(rt, meant, &told);
+    if status == FOLDER_FAULT {
+        explain(rt, folder.trouble());
+    }
+    Ok(status)
+}
