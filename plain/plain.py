@@ -38,8 +38,8 @@ class Package:
 
 PACKAGES = [
     Package("liverymenhir", ["volume", "wear_scrub"], exported=["volume", "nor_core"], no_std=True),
-    # (the last two are for what is to come)
-    Package("spiffs", ["spiffs", "tree_paths", "front_words"]),
+    # (the last three are for what is to come)
+    Package("spiffs", ["spiffs", "tree_paths", "front_words", "image_picture"]),
     Package("script_rows", ["script_rows"]),
     Package("image_explain", ["image_explain"]),
     Package("plain_tests", ["base_tests", "engine_tests", "firmware_example"]),

@@ -1,11 +1,30 @@
 -- How drawing goes on from piece to piece.
-use Rattle.std.proofs.Common.{◌≡◌, ℕ, ◌+◌, ◌≤◌, List, [], ◌++◌, length, take, ap, refl, sym, ◌∙◌, arith, subst, append_assoc, append-nil, length-append, length-take}
-use Rattle.std.proofs.lemmas.List.{take_append_left}
+use Rattle.std.proofs.Common.{◌≡◌, ℕ, ◌+◌, ◌≤◌, List, [], ◌++◌, length, take, ap, refl, sym, ◌∙◌, ◌<◌, ⊎_elim, arith, subst, append_assoc, append-nil, length-append, Result, Ok, Err}
+use Rattle.std.specs.Prelude.{OnOk, OnErr}
+use Rattle.std.proofs.Math.Seq.{take-append-add, take-append_seam}
+use Rattle.std.proofs.lemmas.List.{take-append-le, take_all}
+use Rattle.std.proofs.lemmas.Bool.{cases_lt}
 use Rattle.nor_core.specs.declared.state.NorState.{Ghosts as NorOf}
 use Rattle.nor_core.specs.Count.{Rose}
 use Rattle.nor_core.specs.Device.{OnlyReads, Leaves, Says, InSay}
 use Rattle.nor_core.proofs.Cuts.{andthen, widened, read_on, started}
 use Rattle.image_picture.specs.Drawing.{Drawn, Stopped}
+
+-- a fact is one on an error
+pub on_err : {A E P : Type 0} (r : Result A E) → P → OnErr r P
+on_err (Ok value) here = tt {0}
+on_err (Err why) here = here
+
+-- a front of the second of two texts is one of both, and so is one of the first
+front_then : (text more : List ℕ) (n : ℕ) → take (length text + n) (text ++ more) ≡ text ++ take n more
+front_then text more n = take-append-add text more n
+
+front_first : (text more : List ℕ) (n : ℕ) → (m : ℕ) × (take n text ≡ take m (text ++ more))
+front_first text more n =
+    ⊎_elim
+    (λ (low : n < length text). let least : n ≤ length text = omega arith in (n, sym (take-append-le n text more least)))
+    (λ (high : length text ≤ n). (length text, take_all n text high ∙ sym (take-append_seam text more)))
+    (cases_lt n (length text))
 
 module _ {D : Type 0} {nor : NorOf D} where
   -- nothing is said
@@ -18,6 +37,14 @@ module _ {D : Type 0} {nor : NorOf D} where
 
   pub stopped_piece : {old new : D} {piece : List ℕ} → Says nor old new piece → Leaves nor old new (InSay nor old piece) → Rose (nor.faults old) (nor.faults new) → Stopped nor old new piece
   stopped_piece says leaves rose = record { bytes = says.bytes; writes = says.writes; cuts = widened leaves (λ image count here tells. here); fault = rose; said = λ tells. says.said }
+
+  pub said_whole : {A E : Type 0} {old new : D} {piece : List ℕ} (r : Result A E) → Says nor old new piece → Leaves nor old new (InSay nor old piece) → (nor.tells old → OnOk r (nor.said new ≡ nor.said old ++ piece)) → OnOk r (Drawn nor old new piece)
+  said_whole (Ok value) says leaves whole = drawn_piece says leaves whole
+  said_whole (Err why) says leaves whole = tt {0}
+
+  pub said_front : {A E : Type 0} {old new : D} {piece : List ℕ} (r : Result A E) → Says nor old new piece → Leaves nor old new (InSay nor old piece) → OnErr r (Rose (nor.faults old) (nor.faults new)) → OnErr r (Stopped nor old new piece)
+  said_front (Ok value) says leaves rose = tt {0}
+  said_front (Err why) says leaves rose = stopped_piece says leaves rose
 
   -- the same text, otherwise written
   same_cuts : {old new : D} (a b : List ℕ) → (nor.tells old → a ≡ b) → Leaves nor old new (λ image count. nor.tells old → InSay nor old a image count) → Leaves nor old new (λ image count. nor.tells old → InSay nor old b image count)
@@ -67,10 +94,6 @@ module _ {D : Type 0} {nor : NorOf D} where
     said = λ tells. second.said (first.cuts.told tells) ∙ ap (λ (l : List ℕ). l ++ more) (first.said tells) ∙ append_assoc (nor.said old) text more;
   }
 
-  -- a front of the second text is one of both
-  front_then : (text more : List ℕ) (n : ℕ) → take (length text + n) (text ++ more) ≡ text ++ take n more
-  front_then text more n = ?
-
   pub stopped_then : {old mid new : D} {text more : List ℕ} → Drawn nor old mid text → Stopped nor mid new more → Stopped nor old new (text ++ more)
   stopped_then {old} {mid} {new} {text} {more} first second = record {
     bytes = second.bytes ∙ first.bytes;
@@ -81,10 +104,6 @@ module _ {D : Type 0} {nor : NorOf D} where
         let s = second.said (first.cuts.told tells) in
         (length text + s.0, s.1 ∙ ap (λ (l : List ℕ). l ++ take s.0 more) (first.said tells) ∙ append_assoc (nor.said old) text (take s.0 more) ∙ ap (λ (l : List ℕ). nor.said old ++ l) (sym (front_then text more s.0)));
   }
-
-  -- a front of the first text is one of both
-  front_first : (text more : List ℕ) (n : ℕ) → (m : ℕ) × (take n text ≡ take m (text ++ more))
-  front_first text more n = ?
 
   pub stopped_first : {old new : D} {text : List ℕ} (more : List ℕ) → Stopped nor old new text → Stopped nor old new (text ++ more)
   stopped_first {old} {new} {text} more h = record {

@@ -31,7 +31,7 @@ unfoldable pub label : ℕ → ℕ → Bool → List ℕ
 label block raw has = five block ++ 32 ∷ (count_text raw ++ 32 ∷ magic_text has)
 
 -- where the row of a block begins in an SVG picture, and where the baseline of its label is
-abbrev pub row_top : ℕ → ℕ
+unfoldable pub row_top : ℕ → ℕ
 row_top block = 12 * block + 14
 
 -- what stands before the pages of a block

@@ -40,5 +40,5 @@ word_of (Live head) = if not (names_index head) then codes "data" else if head.s
 word_of Neither = codes "neither"
 
 -- The hue of an id's colour, in degrees: 360 ids that follow each other have different ones, and neighbours far ones.
-abbrev pub hue_of : ℕ → ℕ
+unfoldable pub hue_of : ℕ → ℕ
 hue_of id = id * 137 % 360

@@ -42,6 +42,15 @@ fn draw_page<B: Board>(
     say_piece(board, &work[..end])
 }
 
+// The first page of a block.
+#[tactic(auto, unfolding(geometry::specs::Numbers::page_count))]
+fn first_page(g: &Geometry, block: u32) -> u32
+    requires { block < g.now.blocks }
+    ensures { result ≡ block * per_block g.now }
+{
+    block * g.per_block()
+}
+
 // Says what is written for the pages of a block.
 fn draw_pages<B: Board>(
     board: &mut B,
@@ -58,7 +67,7 @@ fn draw_pages<B: Board>(
     ensures drawn { OnOk result (Drawn B.NorState board.old board.new (pages_of style g.now (B.bytes board.old) block)) }
     ensures stopped { OnErr result (Stopped B.NorState board.old board.new (pages_of style g.now (B.bytes board.old) block)) }
 {
-    let first = block * g.per_block();
+    let first = first_page(g, block);
     for p in first..first + g.per_block() {
         draw_page(board, style, g, p, has, work)?;
     }

@@ -1,5 +1,5 @@
 // The pieces of a picture, put into a line.
-ghost use Rattle.std.specs.Prelude.{◌≡◌, ◌+◌, ◌/◌, ◌%◌, ◌<◌, ◌≤◌, ◌∷◌, ◌++◌, [], length, nat_lt, if◌then◌else◌};
+ghost use Rattle.std.specs.Prelude.{◌≡◌, ◌+◌, ◌/◌, ◌%◌, ◌^◌, ◌<◌, ◌≤◌, ◌∷◌, ◌++◌, [], length, nat_lt, if◌then◌else◌};
 ghost use Rattle.call_script.specs.Pieces.{Puts};
 ghost use Rattle.geometry.specs.Numbers.{page_count};
 ghost use Rattle.image_picture.specs.Pieces.{lead, five, count_text, magic_text, label, opening, closing, page_piece};

@@ -49,9 +49,10 @@ pub(crate) fn word(sign: Sign) -> &'static [u8]
     }
 }
 
-/// The hue of an id's colour, in degrees.
-pub(crate) fn hue(id: u16) -> u32
-    ensures { result ≡ hue_of id }
+/// The hue of a live page's colour, in degrees: that of its file's id.
+#[tactic(auto, unfolding(crate::specs::Signs::hue_of))]
+pub(crate) fn hue(head: &PageHeader) -> u32
+    ensures { result ≡ hue_of (head.now.id % 0x8000) }
 {
-    u32::from(id) * 137 % 360
+    u32::from(head.object()) * 137 % 360
 }

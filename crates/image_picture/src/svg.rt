@@ -3,20 +3,31 @@ ghost use Rattle.std.specs.Prelude.{◌≡◌, ◌+◌, ◌*◌, ◌<◌, ◌≤
 ghost use Rattle.call_script.specs.Pieces.{Puts};
 ghost use Rattle.geometry.specs.Numbers.{page_count};
 ghost use Rattle.image_picture.specs.declared.style.Style.TheVariants.{Svg};
-ghost use Rattle.image_picture.specs.Pieces.{label, opening, fill_text, whose_text, place_text, title_text, page_piece};
+ghost use Rattle.image_picture.specs.Pieces.{label, row_top as the_row_top, opening, fill_text, whose_text, place_text, title_text, page_piece};
 ghost use Rattle.image_picture.specs.Picture.{top_of, legend_of};
 
+use crate::looking::block_of;
 use crate::pieces::put_label;
 use crate::signs::{Sign, hue, word};
 use call_script::{put, put_count};
 use geometry::Geometry;
 
 // Where the row of a block begins, from the top.
+#[tactic(auto, unfolding(crate::specs::Pieces::row_top))]
 fn row_top(block: u32) -> u32
     requires { block < 2 ^ 16 }
-    ensures { result ≡ 12 * block + 14 }
+    ensures top { result ≡ the_row_top block }
+    ensures bound { result < 2 ^ 20 }
 {
     12 * block + 14
+}
+
+// A place so far below the last row.
+fn bottom(g: &Geometry, below: u32) -> u32
+    requires { below < 2 ^ 10 }
+    ensures { result ≡ the_row_top g.now.blocks + below }
+{
+    row_top(g.blocks()) + below
 }
 
 /// Writes the label of a block.
@@ -42,7 +53,7 @@ fn put_fill(into: &mut [u8], at: usize, sign: Sign) -> usize
 {
     match sign {
         Sign::Live(head) => {
-            let at = put_count(into, at, b" fill='hsl(", hue(head.object()));
+            let at = put_count(into, at, b" fill='hsl(", hue(&head));
             put(into, at, b",65%,60%)'")
         }
         Sign::Lookup | Sign::Free | Sign::Deleted | Sign::Neither => at,
@@ -75,7 +86,7 @@ fn put_place(into: &mut [u8], g: &Geometry, p: u32, sign: Sign) -> usize
 {
     let across = 12 * (p % g.per_block()) + 90;
     let at = put_count(into, 0, b"<rect x='", across);
-    let at = put_count(into, at, b"' y='", row_top(p / g.per_block()));
+    let at = put_count(into, at, b"' y='", row_top(block_of(g, p)));
     let at = put(into, at, b"' width='9' height='9' class='");
     let at = put(into, at, word(sign));
     let at = put(into, at, b"'");
@@ -115,8 +126,9 @@ pub(crate) fn put_top(into: &mut [u8], g: &Geometry) -> usize
     ensures put { Puts into.old 0 (top_of Svg g.now) into.new result }
     ensures bound { result ≤ 4096 }
 {
-    let at = put_count(into, 0, b"<svg xmlns='http://www.w3.org/2000/svg' viewBox='0 0 ", 12 * g.per_block() + 400);
-    let at = put_count(into, at, b" ", row_top(g.blocks()) + 60);
+    let wide = 12 * g.per_block() + 400;
+    let at = put_count(into, 0, b"<svg xmlns='http://www.w3.org/2000/svg' viewBox='0 0 ", wide);
+    let at = put_count(into, at, b" ", bottom(g, 60));
     let at = put(into, at, b"' font-family='monospace' font-size='10' xml:space='preserve'>\n");
     let at = put(into, at, b"<style>.lookup{fill:#777}.free{fill:#fff;stroke:#ccc}.deleted{fill:#ccc}.neither{fill:#000}");
     put(into, at, b".header{stroke:#000;stroke-width:2}.index{stroke:#000}</style>\n<text y='9'>block erase   pages</text>\n")
@@ -129,8 +141,8 @@ pub(crate) fn put_legend(into: &mut [u8], g: &Geometry) -> usize
     ensures put { Puts into.old 0 (legend_of Svg g.now) into.new result }
     ensures bound { result ≤ 4096 }
 {
-    let at = put_count(into, 0, b"<text y='", row_top(g.blocks()) + 16);
+    let at = put_count(into, 0, b"<text y='", bottom(g, 16));
     let at = put(into, at, b"'>grey: lookup, pale: deleted, white: free, black: neither, ! no magic</text>\n");
-    let at = put_count(into, at, b"<text y='", row_top(g.blocks()) + 30);
+    let at = put_count(into, at, b"<text y='", bottom(g, 30));
     put(into, at, b"'>a colour: a file; thick border: header, thin: further index</text>\n</svg>\n")
 }
