@@ -47,7 +47,7 @@ fn each_page_is_a_rectangle_in_the_colour_of_its_file() {
 
 #[test]
 fn colours_are_a_function_of_ids() {
-    for (id, hue) in [(1, 137), (2, 274), (3, 51), (359, 223), (360, 0), (361, 137), (0x7FFF, 359)] {
+    for (id, hue) in [(1, 137), (2, 274), (3, 51), (359, 223), (360, 0), (361, 137), (0x7FFE, 102)] {
         let mut image = vec![0xFF; 3072];
         for (page, id, flags) in [(9, 0x8000 | id, 0xF8), (10, id, 0xFC)] {
             put_entry(&mut image, page, id);
