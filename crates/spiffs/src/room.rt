@@ -52,7 +52,15 @@ pub fn df(rt: &HostRuntime, meant: &Meant<'_>) -> Result<u8, Stop> {
     let mut folder = StdFolder::unlisted(rt, rt.alloc());
     let row = row_of(rt, meant, chip_copy(rt, meant)?)?;
     let script = b"info\n";
-    let mut told = give_on(rt, meant, row, script, &mut folder, &mut memory, Guard::Foretells)?;
+    let mut told = give_on(
+        rt,
+        meant,
+        row,
+        script,
+        &mut folder,
+        &mut memory,
+        Guard::Foretells,
+    )?;
     let (Some(g), Some(info)) = (geometry_of(&meant.top), info_told(&told)) else {
         return Ok(end_told(rt, meant, &told));
     };
@@ -64,9 +72,10 @@ pub fn df(rt: &HostRuntime, meant: &Meant<'_>) -> Result<u8, Stop> {
         Some(bytes) => format!(in rt.alloc(); "largest {bytes}\n")?,
         None => format!(in rt.alloc(); "largest none\n")?,
     };
-    let line =
-        format!(in rt.alloc(); "files {files} index {index} data {data} usable {usable}\n{room}")?;
-    told.said = line.into_bytes();
+    let line = format!(in rt.alloc();
+        "files {files} index {index} data {data} usable {usable}\n{room}"
+    )?;
+    told.said = line.as_bytes().to_vec(rt.alloc())?;
     Ok(end_told(rt, meant, &told))
 }
 
@@ -106,7 +115,10 @@ fn tell_need<'r>(
             }
             Ok(status)
         }
-        Ok(Need::TooMany { index, data_pages }) => Ok(end_by(rt, Ending::Full { index, data_pages })),
+        Ok(Need::TooMany { index, data_pages }) => Ok(end_by(
+            rt,
+            Ending::Full { index, data_pages },
+        )),
         Ok(Need::NoVolume(why)) => {
             let status = end_by(rt, Ending::Geometry(why));
             let _said = eprintln!(rt; "spiffs: {why}");
