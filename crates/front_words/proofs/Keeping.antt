@@ -1,6 +1,6 @@
 -- The numbers that a line gives are those of its volume.
-use Rattle.std.proofs.Common.{◌≡◌, ℕ, ◌-◌, ◌*◌, ◌/◌, ◌%◌, ◌<◌, List, [], ◌∷◌, Bool, true, false, cond, eqb, leb, refl, arith, ⊎_elim, subst, Option, Some, None, Ok, Err}
-use Rattle.std.specs.Prelude.{filter, unwrap_or, is_none, not, ◌&&◌, ◌||◌}
+use Rattle.std.proofs.Common.{◌≡◌, ℕ, ◌-◌, ◌*◌, ◌/◌, ◌%◌, ◌<◌, List, [], ◌∷◌, Bool, true, false, cond, eqb, leb, refl, sym, ap, ◌∙◌, arith, ⊎_elim, subst, Option, Some, None, Result, Ok, Err}
+use Rattle.std.specs.Prelude.{filter, unwrap_or, option_map, is_none, not, ◌&&◌, ◌||◌}
 use Rattle.std.proofs.lemmas.Bool.{false≢true, cases_Bool}
 use Rattle.std.proofs.lemmas.Grind.{common_steps}
 use Rattle.geometry.specs.declared.magic.MagicKind.{MagicKind}
@@ -8,9 +8,10 @@ use Rattle.geometry.specs.declared.magic.MagicKind.TheVariants.{Plain, Length}
 use Rattle.front_words.specs.declared.asked.Asked.{Asked}
 use Rattle.front_words.specs.declared.settling.Candidate.{Candidate}
 use Rattle.front_words.specs.declared.settling.Volume.{Volume}
+use Rattle.front_words.specs.declared.settling.Unsettled.{Unsettled}
 use Rattle.front_words.specs.declared.settling.Unsettled.TheVariants.{NoSize, Uneven, Several, AnyMeta}
 use Rattle.front_words.specs.Asking.{changes}
-use Rattle.front_words.specs.Settling.{first_of, known_page, known_block, known_meta, known_magic, start_of, bytes_of, sized, fits, fits_magic, agrees, found_volume, with_meta, as_good, chosen, agreeing, settled_by, settled, needs_found, IsAsGiven, KeepsNumbers}
+use Rattle.front_words.specs.Settling.{first_of, preset_of, known_page, known_block, known_meta, known_magic, start_of, bytes_of, sized, fits, same_magic, fits_magic, agrees, found_volume, with_meta, as_good, chosen, agreeing, settled_by, settled, needs_found, IsAsGiven, KeepsNumbers, meta_by}
 
 both : (a b : Bool) → (a && b) ≡ true → (a ≡ true) × (b ≡ true)
 both true true h = (refl, refl)

@@ -1,5 +1,5 @@
 -- Options in any order.
-use Rattle.std.proofs.Common.{◌≡◌, ℕ, List, [], ◌∷◌, ◌++◌, map, true, false, cond, eqb, refl, sym, ap, ◌∙◌, ◌⊎◌, inl, inr, ⊎_elim}
+use Rattle.std.proofs.Common.{◌≡◌, ℕ, List, [], ◌∷◌, ◌++◌, map, Bool, true, false, cond, eqb, refl, sym, ap, ◌∙◌, ◌⊎◌, inl, inr, ⊎_elim}
 use Rattle.std.specs.List.{flat_map}
 use Rattle.std.proofs.Math.Path.{fun_ext}
 use Rattle.std.proofs.lemmas.List.{map-append}
@@ -7,7 +7,7 @@ use Rattle.std.proofs.lemmas.List.Concat.{flat_map-append}
 use Rattle.front_words.specs.declared.option.Slot.{Slot}
 use Rattle.front_words.specs.Options.{rank}
 use Rattle.front_words.specs.Tokens.{Sort, Part, InPlace, Chose, Held, Twice, parts, sorted_parts, text_in, texts, held, place_in, places}
-use Rattle.front_words.specs.Pieces.{Piece, Stands, Whole, Pair, part_of, line, AreFree}
+use Rattle.front_words.specs.Pieces.{Piece, Stands, Whole, Pair, words_of, part_of, line, IsChosen, AreFree}
 use Rattle.front_words.specs.Asking.{asked_by, asked_from, gifts}
 use Rattle.front_words.proofs.Parted.{parts_first}
 

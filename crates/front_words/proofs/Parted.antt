@@ -1,7 +1,7 @@
 -- The first part of a line.
 use Rattle.std.proofs.Common.{◌≡◌, ℕ, ◌≤◌, List, [], ◌∷◌, length, get_or, drop, map, Bool, false, refl, ap, ◌∙◌, arith}
 use Rattle.front_words.specs.declared.option.Slot.TheVariants.{NoValue}
-use Rattle.front_words.specs.Tokens.{Plain, Ends, Holds, Takes, InPlace, Chose, sort, parts, ended_parts, rest_parts, sorted_parts}
+use Rattle.front_words.specs.Tokens.{Sort, Plain, Ends, Holds, Takes, InPlace, Chose, sort, parts, ended_parts, rest_parts, sorted_parts}
 
 -- a line begins with its first word
 pub parts_first : (w : List ℕ) (ws : List (List ℕ)) → parts (w ∷ ws) ≡ sorted_parts (sort w) w ws

@@ -1,5 +1,5 @@
 -- What a line asks for.
-use Rattle.std.specs.Prelude.{ℕ, ◌-◌, List, [], ◌∷◌, slice_get, Bool, true, false, not, Option, Some, None, is_some, is_none, option_and_then, Result, Ok, Err, ◌&&◌, nat_le, if◌then◌else◌}
+use Rattle.std.specs.Prelude.{ℕ, ◌+◌, ◌-◌, List, [], ◌∷◌, length, slice_get, Bool, true, false, not, Option, Some, None, is_some, is_none, option_and_then, Result, Ok, Err, ◌==◌, ◌&&◌, ◌||◌, nat_le, if◌then◌else◌}
 use Rattle.geometry.specs.declared.magic.MagicKind.{MagicKind}
 use Rattle.front_words.specs.declared.word.Word.{Word}
 use Rattle.front_words.specs.declared.word.Word.TheVariants.{Ls, Pack, Gen, Unpack, Fsck, Cat, Put, Rm, Mv, Df, Size, Picture}
@@ -15,7 +15,7 @@ use Rattle.front_words.specs.declared.asked.Refusal.TheVariants.{NoWord, Unknown
 use Rattle.front_words.specs.Words.{word_named, preset_named, magic_named}
 use Rattle.front_words.specs.Amounts.{amount}
 use Rattle.front_words.specs.Options.{rank}
-use Rattle.front_words.specs.Tokens.{Part, places, texts, Held, Nothing, Once, Twice, held}
+use Rattle.front_words.specs.Tokens.{Part, parts, places, texts, Held, Nothing, Once, Twice, held}
 
 -- what is given for a slot
 abbrev pub in_slot : Slot → List Part → Held

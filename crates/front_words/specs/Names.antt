@@ -1,5 +1,5 @@
 -- The names in a line.
-use Rattle.std.specs.Prelude.{ℕ, List, slice_get, Option, Some, None, if◌then◌else◌}
+use Rattle.std.specs.Prelude.{ℕ, List, slice_get, Option, Some, None, option_and_then, if◌then◌else◌}
 use Rattle.front_words.specs.declared.word.Word.{Word}
 use Rattle.front_words.specs.declared.word.Word.TheVariants.{Ls, Pack, Gen, Unpack, Fsck, Cat, Put, Rm, Mv, Df, Size, Picture}
 use Rattle.front_words.specs.declared.option.Slot.{Slot}

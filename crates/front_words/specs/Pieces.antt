@@ -2,7 +2,7 @@
 use Rattle.std.specs.Prelude.{◌≡◌, ◌⊎◌, ℕ, List, [], ◌∷◌}
 use Rattle.std.specs.List.{flat_map}
 use Rattle.front_words.specs.declared.option.Slot.{Slot}
-use Rattle.front_words.specs.Tokens.{Plain, Holds, Takes, sort, Part, InPlace, Chose}
+use Rattle.front_words.specs.Tokens.{Sort, Plain, Holds, Takes, sort, Part, InPlace, Chose}
 
 -- a word in its place, an option that is one word, or one whose value is a word of its own
 pub data Piece : Type 0 where

@@ -1,5 +1,5 @@
 -- The words of a line, parted into words in their places and options with their values.
-use Rattle.std.specs.Prelude.{ℕ, ◌+◌, List, [], ◌∷◌, take, drop, Bool, true, false, Option, Some, None, ◌==◌, if◌then◌else◌}
+use Rattle.std.specs.Prelude.{ℕ, ◌+◌, List, [], ◌∷◌, ◌++◌, length, take, drop, Bool, true, false, not, Option, Some, None, ◌==◌, if◌then◌else◌}
 use Rattle.std.specs.List.{position, flat_map}
 use Rattle.front_words.specs.declared.option.Slot.{Slot}
 use Rattle.front_words.specs.declared.option.Slot.TheVariants.{NoValue, Unknown}
