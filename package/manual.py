@@ -10,7 +10,7 @@ KINDS = {
     "MAGIC": "len plain",
     "tables": "tables",
 }
-FILES, FOLDERS = "CHIP", "FOLDER"
+FILES, FOLDERS = "CHIP|IMAGE|FILE", "FOLDER"
 # The paragraphs that begin a section of the man page, by their first words.
 SECTIONS = (("PAGE ", "WORDS"), ("A script is", "SCRIPTS"), ("A list is", "OUTPUT"), ("Statuses: ", "EXIT STATUS"))
 

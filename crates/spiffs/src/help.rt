@@ -56,7 +56,56 @@ spiffs: a SPIFFS 0.3.7 flash volume in a chip file, or in several end to end
   spiffs --force COMMAND ..
       goes on where another META reads more whole files; COMMAND is run, check,
       scrub, map, copy, trace or rehearse
+  spiffs ls IMAGE
+      tells the files of a volume; writes nothing
+      spiffs ls image
+  spiffs pack FOLDER IMAGE
+      makes an image of the files of a folder and of those below it: each gets
+      the name that is `/` and its path
+      spiffs pack files image --size 1M
+  spiffs gen SIZE FOLDER IMAGE
+      does the same, in the words of spiffsgen.py
+      spiffs gen 0x10000 files image
+  spiffs unpack IMAGE FOLDER
+      puts the files of a volume into a folder and folders below it, which are
+      made; what is no path is put aside, in a folder of its own
+      spiffs unpack image files
+  spiffs fsck IMAGE [--repair]
+      checks a copy of the volume in memory, or with `--repair` the file
+      spiffs fsck image --repair
+  spiffs cat IMAGE NAME
+      prints the bytes of a file
+      spiffs cat image /index.html
+  spiffs put IMAGE FILE [NAME]
+      puts a file of the host onto the volume, in the place of one of that name
+      spiffs put image index.html /index.html
+  spiffs rm IMAGE NAME ..
+      removes files
+      spiffs rm image /index.html /main.css
+  spiffs mv IMAGE OLD NEW
+      gives a file another name
+      spiffs mv image /index.html /old.html
   spiffs --help | --version
+
+From `ls` on, options stand anywhere in the line, each at most once, and what is
+left out is found in the image. `pack` and `gen` take those of ESP-IDF.
+
+  -p, --page N      bytes of a page
+  -b, --block N     bytes of a block
+  -s, --size N      bytes of the volume, else those of the file
+  --meta N          meta bytes of each file
+  --magic MAGIC     `len` or `plain`
+  --at N            the byte of the file at which the volume begins
+  --for MAKER       numbers of esp-idf, arduino-esp32 or mkspiffs
+  --dry-run         reads alone: changes are tried in memory
+  --repair          of `fsck`: mends the file
+  --force           goes on where another META reads more whole files
+
+N is a number below 2^32: digits, the same with K or M behind, or `0x` and
+hexadecimal digits. Options and -c, -u, -l, -i of mkspiffs and options of
+spiffsgen.py are taken, or refused by name. In a NAME `%` and two hexadecimal
+digits stand for a byte. `put`, `rm` and `mv` try all calls on a copy in memory
+first: the file is only written if none is refused.
 
   PAGE    bytes of a page, a power of two from 128 to 4096
   BLOCK   bytes of a block, a multiple of PAGE
@@ -182,7 +231,8 @@ or a script of more than 16384, is not traced; 21 a page does not read as it was
 written; 22 the chips make no row, or a copy's volumes share one; 23 `run`,
 `check`, `scrub`, `map`, `copy`, `trace` or `rehearse`: ids are damaged on the
 volume, of a copy on the target, and another META reads more whole files,
-nothing was written; 24 a promise is broken. Standard error tells more of
+nothing was written; 24 a promise is broken; 25 a
+call of `cat`, `put`, `rm` or `mv` is refused. Standard error tells more of
 statuses 1, 3, 4, 7, 8, 9, 13, 18, 22 and 23, what a traced run ended with, what
 `make` passed over, and how many damaged files were removed.
 ";
