@@ -16,6 +16,7 @@ import shutil
 import subprocess
 import sys
 import tempfile
+import time
 
 sys.dont_write_bytecode = True
 TOP = pathlib.Path(__file__).resolve().parent.parent.parent
@@ -269,8 +270,9 @@ def compare_files(page, program, part, numbers):
             same("the name it is saved by", saved_as, at_host)
 
 
-def compare_check(page, program, part, image, numbers):
-    """A check is told as the program tells it, the copy has the bytes that the program leaves, and the image stays."""
+def compare_check(page, program, path, image, numbers):
+    """A check is told as the program tells it, the copy has the bytes that the program leaves, and the image stays. The volume begins where
+    the last bytes of the file, `image`, do."""
     before = page.listed()
     checked = program.file(image, "checked")
     status, lines = program.give("--force", "check", *numbers, checked)
@@ -280,12 +282,17 @@ def compare_check(page, program, part, image, numbers):
     with open(checked, "rb") as file:
         after = file.read()
     compare_picture(page, after, numbers)
-    block = int(numbers[1])
+    block, blocks = int(numbers[1]), int(numbers[2])
+    image, after = (it.ljust(block * blocks, b"\xff") for it in (image, after))
     differ = sum(image[i : i + block] != after[i : i + block] for i in range(0, len(after), block))
     if not page.text("changes").startswith(f"Blocks of the copy that differ from the image: {differ}."):
         raise Bad(f"{differ} blocks differ: {page.text('changes')}")
     page.click("save-copy")
-    same("the saved copy", page.browser.downloaded()[1][-len(after):], after)
+    saved_as, saved = page.browser.downloaded()
+    with open(path, "rb") as file:
+        whole = file.read()
+    same("the saved copy", saved, whole[: page.numbers()[0]] + after)
+    same("its name", saved_as, f"checked-{os.path.basename(path)}")
     page.click("on-copy")
     same("the image after the check", page.listed(), before)
     compare_picture(page, image, numbers)
@@ -295,7 +302,7 @@ def compare_all(page, program, path, at=0):
     part, image, numbers = compare_list(page, program, path, at)
     compare_picture(page, image, numbers)
     compare_files(page, program, part, numbers)
-    compare_check(page, program, part, image, numbers)
+    compare_check(page, program, path, image, numbers)
 
 
 # ---- images
@@ -391,10 +398,10 @@ def random_bytes(page, program):
 def a_torn_image(page, program):
     image = bytearray(made(program))
     rng = random.Random(7)
-    for _ in range(40):
-        at = rng.randrange(len(image) - 8)
-        image[at : at + rng.randrange(8)] = rng.randbytes(rng.randrange(8))
-        image = image[:131072].ljust(131072, b"\xff")
+    for _ in range(60):
+        # (the pages that have the magics stay)
+        at = rng.randrange(8) * 4096 + 256 + rng.randrange(3800)
+        image[at : at + 8] = rng.randbytes(8)
     path = program.file(bytes(image))
     page.open(path)
     compare_found(page, program, path)
@@ -419,10 +426,10 @@ def a_wrong_meta(page, program):
     page.open(path)
     numbers = [*NUMBERS[:3], "9", "len"]
     page.read(numbers)
-    part, *_ = compare_list(page, program, path, numbers=numbers)
+    compare_list(page, program, path, numbers=numbers)
     if "With META 4 5 files are whole" not in page.text("warning"):
         raise Bad(f"the warning: {page.text('warning')!r}")
-    compare_check(page, program, part, image, numbers)
+    compare_check(page, program, path, image, numbers)
     page.do("document.querySelector('#found button').click()")
     compare_list(page, program, path, numbers=NUMBERS)
     same("the warning", page.text("warning"), "")
@@ -444,13 +451,14 @@ def a_dump_with_two_volumes(page, program):
 
 
 def many_pages(page, program):
-    numbers = ["128", "8192", "900", "0", "len"]
+    # (256 pages of a block stand in four rows)
+    numbers = ["256", "65536", "16", "0", "len"]
     path = program.file(program.made(numbers, {f"f{i}": noise(i * 3000, i) for i in range(30)}))
     page.open(path)
     compare_found(page, program, path)
-    part, image, numbers = compare_list(page, program, path)
+    _, image, numbers = compare_list(page, program, path)
     compare_picture(page, image, numbers)
-    compare_check(page, program, part, image, numbers)
+    compare_check(page, program, path, image, numbers)
 
 
 def a_dropped_file(page, program):
@@ -537,17 +545,19 @@ def run(case, program, module, parts):
 
 
 def tries(asked, module):
-    """What is tried: its name, and what is wrong with it if anything is."""
+    """What is tried: its name, what is wrong with it if anything is, and the seconds that it took."""
     parts = assemble.parts_now()
     for case in CASES if not asked.wrong else ():
         if asked.word in case.__name__:
-            yield case.__name__.replace("_", " "), run(case, asked.program, module, parts)
+            start = time.monotonic()
+            yield case.__name__.replace("_", " "), run(case, asked.program, module, parts), time.monotonic() - start
     for what, part, old, new, case in WRONG if asked.wrong else ():
         if asked.word in what:
+            start = time.monotonic()
             count = parts[part].count(old)
             broken = {**parts, part: parts[part].replace(old, new)}
             why = f"its old text stands {count} times" if count != 1 else None if run(case, asked.program, module, broken) else "it passes"
-            yield f"a broken page: {what}", why
+            yield f"a broken page: {what}", why, time.monotonic() - start
 
 
 def main():
@@ -558,9 +568,9 @@ def main():
     words.add_argument("word", nargs="?", default="")
     asked = words.parse_args()
     passed = failed = 0
-    for name, why in tries(asked, asked.module.read_bytes()):
+    for name, why, took in tries(asked, asked.module.read_bytes()):
         passed, failed = passed + (why is None), failed + (why is not None)
-        print(f"ok    {name}" if why is None else f"WRONG {name}: {why}", flush=True)
+        print(f"ok    {name}, {took:.0f} s" if why is None else f"WRONG {name}, {took:.0f} s: {why}", flush=True)
     print(f"{passed} passed, {failed} failed")
     return 1 if failed else 0
 

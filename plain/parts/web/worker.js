@@ -49,7 +49,7 @@ const DOES = {
     const status = wasm.copy(least);
     if (status !== 0) return { status, lines: [], changed: 0 };
     const told = command(["check", ...numbers], at, true);
-    return { ...told, changed: wasm.changed(block) };
+    return { ...told, changed: wasm.changed(at, block) };
   },
 
   copied: () => bytesAt(wasm.copied(), wasm.copied_size()).slice(),

@@ -59,10 +59,10 @@ extern "C" fn picture(at: usize, on_copy: u32) -> u32 {
     session().picture(at, on_copy != 0).into()
 }
 
-/// Counts the blocks of the copy that differ from those of the image; a block has so many bytes, at least one.
+/// Counts the blocks of the copy, from byte `at` on, that differ from those of the image. A block has so many bytes, at least one.
 #[unsafe(no_mangle)]
-extern "C" fn changed(block: usize) -> usize {
-    session().changed(block)
+extern "C" fn changed(at: usize, block: usize) -> usize {
+    session().changed(at, block)
 }
 
 /// The address of the answer.

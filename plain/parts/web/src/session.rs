@@ -33,6 +33,13 @@ fn words_of(text: &[u8]) -> Vec<String> {
     }
 }
 
+// Whether bytes have these at a place; behind their end they are 0xFF.
+fn is_same(bytes: &[u8], start: usize, piece: &[u8]) -> bool {
+    let held = bytes.get(start..).unwrap_or(&[]);
+    let count = held.len().min(piece.len());
+    held[..count] == piece[..count] && piece[count..].iter().all(|byte| *byte == 0xFF)
+}
+
 impl Session {
     pub const fn new() -> Session {
         Session {
@@ -82,9 +89,11 @@ impl Session {
         self.over(at, on_copy, picture::draw)
     }
 
-    pub fn changed(&self, block: usize) -> usize {
-        let size = block.max(1);
-        let mut before = self.image.chunks(size);
-        self.copied.chunks(size).filter(|after| before.next() != Some(*after)).count()
+    pub fn changed(&self, at: usize, block: usize) -> usize {
+        let from = |bytes: &[u8]| at.min(bytes.len());
+        let image = &self.image[from(&self.image)..];
+        let copied = &self.copied[from(&self.copied)..];
+        let blocks = copied.chunks(block.max(1)).zip((0..).step_by(block.max(1)));
+        blocks.filter(|(after, start)| !is_same(image, *start, after)).count()
     }
 }
