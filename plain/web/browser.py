@@ -1,4 +1,7 @@
-"""A headless Chromium with one page, over the DevTools protocol through a pipe. Standard library alone."""
+"""A headless Chromium with one page, over the DevTools protocol through a pipe. Standard library alone.
+
+As a program it ends with 0 where there is a Chromium.
+"""
 
 import json
 import os
@@ -6,6 +9,7 @@ import select
 import shutil
 import signal
 import subprocess
+import sys
 import tempfile
 import time
 
@@ -27,6 +31,8 @@ class Browser:
         self.downloads = os.path.join(self.room, "downloads")
         os.mkdir(self.downloads)
         self.exceptions, self.dialogs, self.loads = [], [], []
+        # Files that are being saved, their names by their numbers, and the numbers of those that are there.
+        self.begun, self.saved = {}, []
         self.number, self.left, self.session = 0, b"", None
         self.start()
         target = self.ask("Target.createTarget", url="about:blank")["targetId"]
@@ -34,7 +40,7 @@ class Browser:
         for domain in ("Page", "Runtime", "DOM", "Network", "Log"):
             self.ask(f"{domain}.enable")
         self.ask("Emulation.setDeviceMetricsOverride", width=1200, height=4000, deviceScaleFactor=1, mobile=False)
-        self.ask("Browser.setDownloadBehavior", behavior="allow", downloadPath=self.downloads)
+        self.ask("Browser.setDownloadBehavior", behavior="allowAndName", downloadPath=self.downloads, eventsEnabled=True)
         self.ask("Page.navigate", url=url)
         self.wait("document.readyState === 'complete'")
 
@@ -87,10 +93,14 @@ class Browser:
             self.dialogs.append(of["message"])
         elif what == "Network.requestWillBeSent":
             self.loads.append(of["request"]["url"])
+        elif what == "Browser.downloadWillBegin":
+            self.begun[of["guid"]] = of["suggestedFilename"]
+        elif what == "Browser.downloadProgress" and of["state"] == "completed":
+            self.saved.append(of["guid"])
         elif what == "Log.entryAdded" and of["entry"]["level"] == "error":
             self.exceptions.append(of["entry"]["text"])
 
-    def ask(self, method, seconds=60, **params):
+    def ask(self, method, seconds=300, **params):
         """The answer to a call of the protocol."""
         self.number += 1
         call = {"id": self.number, "method": method, "params": params}
@@ -118,7 +128,7 @@ class Browser:
             raise RuntimeError(told["exceptionDetails"])
         return told["result"].get("value")
 
-    def wait(self, script, seconds=90):
+    def wait(self, script, seconds=300):
         """Waits until an expression of the page is true."""
         until = time.monotonic() + seconds
         while not self.value(script):
@@ -145,21 +155,23 @@ class Browser:
         """How many targets of a kind there are, such as workers."""
         return sum(it["type"] == kind for it in self.ask("Target.getTargets")["targetInfos"])
 
-    def downloaded(self, seconds=30):
-        """The name and the bytes of the one file that was saved, which is then removed."""
+    def downloaded(self, seconds=120):
+        """The name and the bytes of the next file that is saved."""
+        # (Chromium saves ten files of a page within a second, and passes over the others)
+        time.sleep(0.12)
         until = time.monotonic() + seconds
-        while True:
-            names = os.listdir(self.downloads)
-            if len(names) == 1 and not names[0].endswith(".crdownload") and not names[0].startswith("."):
-                break
+        while not self.saved:
             if time.monotonic() > until:
-                raise TimeoutError(f"not one file was saved, but {names}")
+                raise TimeoutError(f"no file was saved, of {self.begun}")
+            # (events come with an answer)
+            self.ask("Browser.getVersion")
             time.sleep(0.02)
-        path = os.path.join(self.downloads, names[0])
+        number = self.saved.pop(0)
+        path = os.path.join(self.downloads, number)
         with open(path, "rb") as file:
             data = file.read()
         os.remove(path)
-        return names[0], data
+        return self.begun.pop(number), data
 
     def point(self, x, y):
         """Moves the mouse to a place of the page."""
@@ -177,3 +189,7 @@ class Browser:
             except (OSError, ProcessLookupError):
                 pass
         return total
+
+
+if __name__ == "__main__":
+    sys.exit(0 if program() else 1)

@@ -453,7 +453,7 @@ def a_dump_with_two_volumes(page, program):
 def many_pages(page, program):
     # (256 pages of a block stand in four rows)
     numbers = ["256", "65536", "16", "0", "len"]
-    path = program.file(program.made(numbers, {f"f{i}": noise(i * 3000, i) for i in range(30)}))
+    path = program.file(program.made(numbers, {f"f{i}": noise(i * 1500, i) for i in range(25)}))
     page.open(path)
     compare_found(page, program, path)
     _, image, numbers = compare_list(page, program, path)
@@ -523,7 +523,8 @@ WRONG = [
     ("a second candidate isn't shown", "page.js", "const items = lines.map(", "const items = lines.slice(0, 1).map(", a_dump_with_two_volumes),
     ("a volume is read from the first byte of the file", "worker.js", "const status = wasm.command(at, onCopy)", "const status = wasm.command(0, onCopy)",
      a_dump_with_two_volumes),
-    ("the worker of the last image goes on", "page.js", "this.worker.terminate();", "", memory_is_given_back),
+    ("the last image is kept", "page.js", "open.session?.end();", "(window.kept ??= []).push(open.session);", memory_is_given_back),
+    ("a look goes on that was stopped", "page.js", "this.worker.terminate();", "", a_look_is_stopped),
 ]
 
 
