@@ -140,7 +140,8 @@ class Browser:
         return self.ask("DOM.querySelector", nodeId=self.ask("DOM.getDocument")["root"]["nodeId"], selector=selector)["nodeId"]
 
     def choose(self, selector, path):
-        """Chooses a file in a field."""
+        """Chooses a file in a field, also the one that was chosen before."""
+        self.value(f"void (document.querySelector('{selector}').value = '')")
         self.ask("DOM.setFileInputFiles", nodeId=self.node(selector), files=[path])
 
     def drop(self, selector, path):

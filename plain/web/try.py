@@ -116,8 +116,13 @@ class Page:
     def click(self, name):
         self.do(f"document.getElementById('{name}').click()")
 
-    def open(self, path):
-        self.browser.choose("#file", path)
+    def open(self, path, drops=False):
+        """Chooses an image, or drops it onto the page, and waits until it is shown."""
+        self.browser.value("void (document.getElementById('state').textContent = 'not begun ..')")
+        if drops:
+            self.browser.drop("#drop", path)
+        else:
+            self.browser.choose("#file", path)
         self.browser.wait(IDLE)
 
     def read(self, numbers, at=0):
@@ -384,6 +389,7 @@ def random_bytes(page, program):
     for size, seed in ((65536, 1), (300001, 2), (4095, 3), (1, 4), (0, 5)):
         path = program.file(noise(size, seed))
         page.open(path)
+        same("the state", page.text("state"), f"image, {size} bytes")
         compare_found(page, program, path)
         compare_list(page, program, path)
     for byte in (b"\0", b"\xff"):
@@ -463,9 +469,7 @@ def many_pages(page, program):
 
 def a_dropped_file(page, program):
     path = program.file(made(program))
-    page.browser.drop("#drop", path)
-    page.browser.wait("document.querySelectorAll('#files tr').length > 0")
-    page.browser.wait(IDLE)
+    page.open(path, drops=True)
     compare_list(page, program, path)
 
 
