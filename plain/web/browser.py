@@ -152,9 +152,13 @@ class Browser:
         for kind in ("dragEnter", "dragOver", "drop"):
             self.ask("Input.dispatchDragEvent", type=kind, x=x, y=y, data=data)
 
-    def targets(self, kind):
-        """How many targets of a kind there are, such as workers."""
-        return sum(it["type"] == kind for it in self.ask("Target.getTargets")["targetInfos"])
+    def wait_for_workers(self, count, seconds=30):
+        """Waits until there are so many workers: one that is ended is there for a while."""
+        until = time.monotonic() + seconds
+        while (found := sum(it["type"] == "worker" for it in self.ask("Target.getTargets")["targetInfos"])) != count:
+            if time.monotonic() > until:
+                raise TimeoutError(f"{found} workers, wanted {count}")
+            time.sleep(0.05)
 
     def downloaded(self, seconds=120):
         """The name and the bytes of the next file that is saved."""

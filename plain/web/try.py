@@ -481,7 +481,7 @@ def memory_is_given_back(page, program):
     for _ in range(8):
         page.open(path)
         page.click("check")
-        same("workers", page.browser.targets("worker"), 1)
+        page.browser.wait_for_workers(1)
         held.append(page.browser.memory())
     if max(held[4:]) > held[1] + 150_000_000:
         raise Bad(f"bytes that are held after each image: {held}")
@@ -493,9 +493,39 @@ def a_look_is_stopped(page, program):
     page.browser.wait("!document.getElementById('stop').hidden")
     page.click("stop")
     same("the state", page.text("state"), "Stopped. Open the file once more to go on.")
-    same("workers", page.browser.targets("worker"), 0)
+    page.browser.wait_for_workers(0)
     page.open(small)
     compare_list(page, program, small)
+
+
+def many_candidates(page, program):
+    """Rows of three blocks without the magic of a length, each of several sizes of page."""
+    image = bytearray(b"\xff" * (60 * 16384))
+    for group in range(60):
+        for block in range(3):
+            for size in (128, 256, 512, 1024):
+                end = group * 16384 + block * 4096 + size
+                image[end - 4 : end - 2] = word(0x0529 ^ size)
+    path = program.file(bytes(image))
+    _, lines = program.give("detect", path)
+    if len(lines) <= 100:
+        raise Bad(f"{len(lines)} candidates are too few for this case")
+    page.open(path)
+    same("detect", page.found(), [*lines[:100], f"and {len(lines) - 100} more"])
+    compare_list(page, program, path)
+
+
+def what_breaks_is_told(page, program):
+    """A worker that fails is ended, and the next image is opened as any."""
+    path = program.file(made(program))
+    page.open(path)
+    page.browser.value("void open.session.ask('no such thing')")
+    page.browser.wait(IDLE)
+    if not page.text("state").startswith("This image can't be read here: TypeError"):
+        raise Bad(page.text("state"))
+    page.browser.wait_for_workers(0)
+    page.open(path)
+    compare_all(page, program, path)
 
 
 def a_file_that_is_too_large(page, program):
@@ -507,7 +537,7 @@ def a_file_that_is_too_large(page, program):
 
 CASES = [a_made_image, an_image_as_spiffsgen_lays_it_out, names_and_bytes_of_all_sorts, a_file_of_a_hostile_name, random_bytes, a_torn_image,
          an_image_that_is_cut_off, a_wrong_meta, a_dump_with_two_volumes, many_pages, a_dropped_file, memory_is_given_back, a_look_is_stopped,
-         a_file_that_is_too_large]
+         many_candidates, what_breaks_is_told, a_file_that_is_too_large]
 
 # How a page is broken: what, in which part, the old text, the new text, and the case that has to fail.
 WRONG = [
@@ -524,7 +554,7 @@ WRONG = [
     ("all files have one colour", "page.js", "Math.round(id * 137.508) % 360", "99", a_made_image),
     ("the image is checked, not a copy", "worker.js", 'command(["check", ...numbers], at, true)', 'command(["check", ...numbers], at, false)', a_torn_image),
     ("the list of the copy is that of the image", "page.js", 'onCopy: el("on-copy").checked', "onCopy: false", a_torn_image),
-    ("a second candidate isn't shown", "page.js", "const items = lines.map(", "const items = lines.slice(0, 1).map(", a_dump_with_two_volumes),
+    ("a second candidate isn't shown", "page.js", "lines.slice(0, MOST_FOUND).map(", "lines.slice(0, 1).map(", a_dump_with_two_volumes),
     ("a volume is read from the first byte of the file", "worker.js", "const status = wasm.command(at, onCopy)", "const status = wasm.command(0, onCopy)",
      a_dump_with_two_volumes),
     ("the last image is kept", "page.js", "open.session?.end();", "(window.kept ??= []).push(open.session);", memory_is_given_back),

@@ -3,6 +3,7 @@
 
 const MOST_BYTES = 256 * 1024 * 1024;
 const MOST_SHOWN = 65536;
+const MOST_FOUND = 100;
 const KINDS = ["lookup", "free", "deleted", "header", "further index", "data", "neither"];
 const [LOOKUP, FREE, DELETED, HEADER, INDEX, DATA, NEITHER] = KINDS.keys();
 const PLAIN_COLOURS = { [LOOKUP]: "#8a8a8a", [FREE]: "#ffffff", [DELETED]: "#dadada", [NEITHER]: "#202020" };
@@ -95,16 +96,22 @@ function candidate(line) {
 
 function showFound(lines) {
   open.found = lines.map(candidate).filter(found => found);
-  const items = lines.map((line, i) => {
-    const item = document.createElement("li");
+  const items = lines.slice(0, MOST_FOUND).map(line => {
     const found = candidate(line);
-    item.className = "printed";
-    item.textContent = line;
+    const item = printed(line);
     if (found) item.append(" ", button("take", () => { fill(found); show(); }));
     return item;
   });
+  if (lines.length > MOST_FOUND) items.push(printed(`and ${lines.length - MOST_FOUND} more`));
   el("found").replaceChildren(...items);
   fill(open.found[0] ?? { at: 0, page: 256, block: 4096, blocks: Math.floor(open.size / 4096), meta: 0, magic: "len" });
+}
+
+/** An item of a list that has a line of what was printed. */
+function printed(line) {
+  const item = document.createElement("li");
+  item.textContent = line;
+  return item;
 }
 
 function fill(found) {
@@ -181,11 +188,7 @@ function showFiles({ files, damaged, closing }) {
     row.insertCell().append(button("open", () => view(file)), " ", button("save", () => saveFile(file)));
     return row;
   }));
-  el("damaged").replaceChildren(...damaged.map(line => {
-    const item = document.createElement("li");
-    item.textContent = line;
-    return item;
-  }));
+  el("damaged").replaceChildren(...damaged.map(printed));
 }
 
 /** What to know before a check, if files are damaged by these numbers. */

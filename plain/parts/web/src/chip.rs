@@ -15,7 +15,12 @@ impl<'a> Chip<'a> {
     /// A chip of one byte or more, in erase units of one byte.
     pub fn new(bytes: &'a mut [u8], said: &'a mut Vec<u8>) -> Chip<'a> {
         let size = u32::try_from(bytes.len()).unwrap_or(u32::MAX).max(1);
-        Chip { bytes, size, unit: 1, said }
+        Chip {
+            bytes,
+            size,
+            unit: 1,
+            said,
+        }
     }
 
     /// The same of another size and with other erase units.
@@ -48,7 +53,10 @@ impl Nor for Chip<'_> {
 
     fn program(&mut self, at: u32, from: &[u8]) -> Result<(), Failed> {
         let start = at as usize;
-        let place = self.bytes.get_mut(start..start + from.len()).ok_or(Failed)?;
+        let place = self
+            .bytes
+            .get_mut(start..start + from.len())
+            .ok_or(Failed)?;
         for (byte, asked) in place.iter_mut().zip(from) {
             *byte &= *asked;
         }
@@ -57,7 +65,10 @@ impl Nor for Chip<'_> {
 
     fn erase(&mut self, unit_ix: u32, _: Option<Mark>) -> Result<(), Failed> {
         let (start, size) = (unit_ix as usize * self.unit as usize, self.unit as usize);
-        self.bytes.get_mut(start..start + size).ok_or(Failed)?.fill(0xFF);
+        self.bytes
+            .get_mut(start..start + size)
+            .ok_or(Failed)?
+            .fill(0xFF);
         Ok(())
     }
 }

@@ -28,7 +28,10 @@ fn room_in(bytes: &mut Vec<u8>, size: usize) -> *mut u8 {
 // The words, parted by newlines; none where they are no text.
 fn words_of(text: &[u8]) -> Vec<String> {
     match str::from_utf8(text) {
-        Ok(text) => text.split('\n').map(|word| String::from(word.to_owned())).collect(),
+        Ok(text) => text
+            .split('\n')
+            .map(|word| String::from(word.to_owned()))
+            .collect(),
         Err(_) => Vec::new(),
     }
 }
@@ -70,11 +73,23 @@ impl Session {
     }
 
     // Does something over the volume that begins at a byte of the image or of the copy, with the words and an empty answer.
-    fn over(&mut self, at: usize, on_copy: bool, does: impl FnOnce(&[String], Chip<'_>) -> u8) -> u8 {
-        let bytes = if on_copy { &mut self.copied } else { &mut self.image };
+    fn over(
+        &mut self,
+        at: usize,
+        on_copy: bool,
+        does: impl FnOnce(&[String], Chip<'_>) -> u8,
+    ) -> u8 {
+        let bytes = if on_copy {
+            &mut self.copied
+        } else {
+            &mut self.image
+        };
         let start = at.min(bytes.len());
         self.answer = Vec::new();
-        does(&words_of(&self.words), Chip::new(&mut bytes[start..], &mut self.answer))
+        does(
+            &words_of(&self.words),
+            Chip::new(&mut bytes[start..], &mut self.answer),
+        )
     }
 
     pub fn command(&mut self, at: usize, on_copy: bool) -> u8 {
@@ -94,6 +109,8 @@ impl Session {
         let image = &self.image[from(&self.image)..];
         let copied = &self.copied[from(&self.copied)..];
         let blocks = copied.chunks(block.max(1)).zip((0..).step_by(block.max(1)));
-        blocks.filter(|(after, start)| !is_same(image, *start, after)).count()
+        blocks
+            .filter(|(after, start)| !is_same(image, *start, after))
+            .count()
     }
 }

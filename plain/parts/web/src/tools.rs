@@ -63,5 +63,11 @@ fn spiffs_on(words: &[String], chip: Chip<'_>) -> Option<u8> {
     let mut board = chip_for(words, chip);
     let mut memory = Memory::new(board.size())?;
     let mut folder = MemFolder::new(Global);
-    Some(spiffs_tool(words, &mut board, &mut NoScript, &mut folder, &mut memory.lend()))
+    Some(spiffs_tool(
+        words,
+        &mut board,
+        &mut NoScript,
+        &mut folder,
+        &mut memory.lend(),
+    ))
 }
