@@ -290,8 +290,8 @@ def compare_check(page, program, path, image, numbers):
     block, blocks = int(numbers[1]), int(numbers[2])
     image, after = (it.ljust(block * blocks, b"\xff") for it in (image, after))
     differ = sum(image[i : i + block] != after[i : i + block] for i in range(0, len(after), block))
-    if not page.text("changes").startswith(f"Blocks of the copy that differ from the image: {differ}."):
-        raise Bad(f"{differ} blocks differ: {page.text('changes')}")
+    damaged = sum(line.startswith("damaged") for line in before[1])
+    same("what is changed", page.text("changes"), f"Blocks of the copy that differ from the image: {differ}. Damaged ids of the image: {damaged}.")
     page.click("save-copy")
     saved_as, saved = page.browser.downloaded()
     with open(path, "rb") as file:

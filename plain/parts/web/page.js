@@ -126,33 +126,38 @@ function button(text, does) {
   return it;
 }
 
-/** What is asked of the worker: the numbers as they stand in the fields, and where the volume begins. */
+/** The numbers as they stand in the fields, and where the volume begins. */
 function asked() {
   const at = /^\d{1,9}$/.test(el("at").value) ? Number(el("at").value) : NaN;
-  return { numbers: [...NUMBERS.map(name => el(name).value), "image"], at, onCopy: el("on-copy").checked };
+  return { numbers: [...NUMBERS.map(name => el(name).value), "image"], at };
 }
 
 /** Reads the volume by the numbers in the fields, and forgets what was checked by others. */
 async function show() {
+  open.asked = asked();
   Object.assign(el("on-copy"), { checked: false, disabled: true });
   el("save-copy").disabled = true;
   for (const name of ["report", "changes"]) el(name).textContent = "";
   await showVolume();
 }
 
+/** Shows the volume of the image, or of the checked copy, by the numbers that were read. */
 async function showVolume() {
-  const what = asked();
+  const what = { ...open.asked, onCopy: el("on-copy").checked };
   el("view").hidden = true;
   el("state").textContent = `${open.name}, ${open.size} bytes`;
   if (!(what.at <= open.size)) return showNothing("the first byte isn't a number of a byte of this file");
   const { session } = open;
   const { status, lines } = await session.ask("list", what);
   const told = parsed(lines);
-  open.shown = { ...what, ...told };
+  open.shown = { onCopy: what.onCopy, files: told.files };
   showFiles(told);
   el("summary").textContent = `files ${told.files.length}, damaged ids ${told.damaged.length}, status ${status}`;
   const isVolume = status === 0 || status === 12;
-  if (!what.onCopy) el("check").disabled = !isVolume;
+  if (!what.onCopy) {
+    el("check").disabled = !isVolume;
+    open.damaged = told.damaged.length;
+  }
   el("warning").textContent = isVolume ? warning(what, told) : "";
   const pages = isVolume ? await session.ask("picture", what) : { status: 7, bytes: [] };
   showPicture(what, pages.status === 0 ? pages.bytes : []);
@@ -162,7 +167,7 @@ function showNothing(why) {
   showFiles({ files: [], damaged: [], closing: why });
   el("summary").textContent = el("warning").textContent = "";
   el("check").disabled = true;
-  showPicture(asked(), []);
+  showPicture(open.asked, []);
 }
 
 /** The lines of `list`, parted. */
@@ -202,7 +207,7 @@ function warning(what, { files, damaged }) {
 }
 
 async function bytesOf(file) {
-  const { status, bytes } = await open.session.ask("read", { ...open.shown, files: [], id: Number(file.id) });
+  const { status, bytes } = await open.session.ask("read", { ...open.asked, onCopy: open.shown.onCopy, id: Number(file.id) });
   if (status === 0) return bytes;
   el("state").textContent = `the file ${file.name} can't be read, status ${status}`;
   return null;
@@ -318,12 +323,11 @@ function point(event) {
 }
 
 async function check() {
-  const { numbers, at } = open.shown;
+  const { numbers, at } = open.asked;
   const [, block, blocks] = numbers.map(Number);
-  const before = open.shown.damaged.length;
   const { status, lines, changed } = await open.session.ask("check", { numbers, at, least: at + block * blocks, block });
   el("report").textContent = [...lines, `status ${status}`].join("\n");
-  el("changes").textContent = `Blocks of the copy that differ from the image: ${changed}. Damaged ids before: ${before}.`;
+  el("changes").textContent = `Blocks of the copy that differ from the image: ${changed}. Damaged ids of the image: ${open.damaged}.`;
   Object.assign(el("on-copy"), { disabled: false, checked: true });
   el("save-copy").disabled = false;
   await showVolume();

@@ -93,7 +93,11 @@ impl Session {
     }
 
     pub fn command(&mut self, at: usize, on_copy: bool) -> u8 {
-        self.over(at, on_copy, tools::command)
+        let status = self.over(at, on_copy, tools::command);
+        if status == NO_MEMORY {
+            self.answer = b"! memory\n".to_vec();
+        }
+        status
     }
 
     pub fn read(&mut self, at: usize, on_copy: bool, id: u16) -> u8 {
