@@ -111,11 +111,7 @@ fn print_in<C: HostChip>(
 }
 
 // Ends where the volume isn't mounted, as a list of it does.
-fn end_unmounted(
-    rt: &HostRuntime,
-    meant: &Meant<'_>,
-    memory: &mut Memory,
-) -> Result<u8, Refusal> {
+fn end_unmounted(rt: &HostRuntime, meant: &Meant<'_>, memory: &mut Memory) -> Result<u8, Refusal> {
     let mut folder = StdFolder::unlisted(rt, rt.alloc());
     let row = row_of(rt, meant, chip_file(rt, meant, Access::Read))?;
     let told = give_on(rt, meant, row, b"", &mut folder, memory, Guard::Open)?;

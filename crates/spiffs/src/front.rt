@@ -47,11 +47,27 @@ fn check(rt: &HostRuntime, meant: &Meant<'_>) -> Result<u8, Stop> {
     let mut folder = StdFolder::unlisted(rt, rt.alloc());
     if meant.asked.repairs && !meant.asked.is_dry {
         let row = row_of(rt, meant, chip_file(rt, meant, Access::Write))?;
-        let told = give_on(rt, meant, row, b"", &mut folder, &mut memory, Guard::Removes)?;
+        let told = give_on(
+            rt,
+            meant,
+            row,
+            b"",
+            &mut folder,
+            &mut memory,
+            Guard::Removes,
+        )?;
         return Ok(end_told(rt, meant, &told));
     }
     let row = row_of(rt, meant, chip_copy(rt, meant)?)?;
-    let told = give_on(rt, meant, row, b"", &mut folder, &mut memory, Guard::Foretells)?;
+    let told = give_on(
+        rt,
+        meant,
+        row,
+        b"",
+        &mut folder,
+        &mut memory,
+        Guard::Foretells,
+    )?;
     Ok(end_told(rt, meant, &told))
 }
 

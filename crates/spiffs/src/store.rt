@@ -1,15 +1,12 @@
 //! The words `put`, `rm` and `mv`, which change files of an image. Their whole script runs on a copy in memory first, and on the file only
 //! if no line of it is refused there.
-use crate::give::{
-    Guard, Told, chip_copy, chip_file, explain_told, give_on, print_bytes, row_of,
-};
+use crate::give::{Guard, Told, chip_copy, chip_file, explain_told, give_on, print_bytes, row_of};
 use crate::look::Seen;
 use crate::meant::{Meant, fail, text_of};
 use crate::script::{FileName, May, Script, count_lines, first_refused, reason_of};
 use crate::stop::Stop;
 use crate::{
-    BOARD_FAULT, FOLDER_FAULT, Memory, REFUSED, explain_damaged, explain_removed, take_memory,
-    tell,
+    BOARD_FAULT, FOLDER_FAULT, Memory, REFUSED, explain_damaged, explain_removed, take_memory, tell,
 };
 use chip_row::ChipRow;
 use front_edge::HostChip;

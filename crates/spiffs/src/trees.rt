@@ -127,11 +127,7 @@ pub fn pack(rt: &HostRuntime, meant: &mut Meant<'_>) -> Result<u8, Stop> {
 }
 
 // Tells what would be put into the tree.
-fn unpack_dry(
-    rt: &HostRuntime,
-    meant: &Meant<'_>,
-    memory: &mut Memory,
-) -> Result<u8, Stop> {
+fn unpack_dry(rt: &HostRuntime, meant: &Meant<'_>, memory: &mut Memory) -> Result<u8, Stop> {
     let mut folder = MemFolder::new(rt.alloc());
     let row = row_of(rt, meant, chip_file(rt, meant, Access::Read))?;
     let told = give_on(rt, meant, row, b"", &mut folder, memory, Guard::Open)?;
