@@ -80,3 +80,19 @@ twice_refused all slot twice = word_refuses (word_found (gifts all) (places all)
 -- one slot more
 pub fault_more : (word : Word) (gives : Slot → Held) (slots : List Slot) (i : ℕ) (d : Slot) → i < length slots → first_fault word gives (drop i slots) ≡ or_else (fault_of word (get_or slots i d) (gives (get_or slots i d))) (first_fault word gives (drop (i + 1) slots))
 fault_more word gives slots i d inside = ap (λ (l : List Slot). first_fault word gives l) (drop_more slots i d inside)
+
+-- where the next slot has a fault, that is the first
+pub fault_here : (word : Word) (gives : Slot → Held) (slots : List Slot) (i : ℕ) (d : Slot) (given : Held) (found : Option Refusal) → i < length slots → found ≡ fault_of word (get_or slots i d) given → given ≡ gives (get_or slots i d) → is_some found ≡ true → found ≡ first_fault word gives (drop i slots)
+fault_here word gives slots i d given found inside is same some = sym (fault_more word gives slots i d inside ∙ ap (λ (o : Option Refusal). or_else o (first_fault word gives (drop (i + 1) slots))) (sym (is ∙ ap (λ (h : Held). fault_of word (get_or slots i d) h) same)) ∙ over found some)
+  where
+    over : (o : Option Refusal) → is_some o ≡ true → or_else o (first_fault word gives (drop (i + 1) slots)) ≡ o
+    over (Some why) h = refl
+    over None h = absurd (false≢true h)
+
+-- where it has none, the first is one of those behind
+pub fault_behind : (word : Word) (gives : Slot → Held) (slots : List Slot) (i : ℕ) (d : Slot) (given : Held) (found : Option Refusal) → i < length slots → found ≡ fault_of word (get_or slots i d) given → given ≡ gives (get_or slots i d) → is_some found ≡ false → first_fault word gives (drop (i + 1) slots) ≡ first_fault word gives (drop i slots)
+fault_behind word gives slots i d given found inside is same none = sym (fault_more word gives slots i d inside ∙ ap (λ (o : Option Refusal). or_else o (first_fault word gives (drop (i + 1) slots))) (sym (is ∙ ap (λ (h : Held). fault_of word (get_or slots i d) h) same)) ∙ over found none)
+  where
+    over : (o : Option Refusal) → is_some o ≡ false → or_else o (first_fault word gives (drop (i + 1) slots)) ≡ first_fault word gives (drop (i + 1) slots)
+    over (Some why) h = absurd (false≢true (sym h))
+    over None h = refl

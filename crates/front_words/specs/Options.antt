@@ -1,5 +1,6 @@
 -- Options, by their names.
-use Rattle.std.specs.Prelude.{List, ℕ, ◌||◌, Option, Some, None, codes, if◌then◌else◌}
+use Rattle.std.specs.Prelude.{List, ℕ, Bool, ◌||◌, Option, Some, None, codes, if◌then◌else◌}
+use Rattle.std.specs.Option.{option_or}
 use Rattle.call_script.specs.Lines.{is_text}
 use Rattle.front_words.specs.declared.option.Slot.{Slot}
 use Rattle.front_words.specs.declared.option.Slot.TheVariants.{Page, Block, Size, Meta, Magic, At, Preset, DryRun, Repair, Svg, Force, Create, Unpack, List as Lists, Visualize, AllFiles, Debug, UseMagic, NameLength, NoMagic, BigEndian, Aligned, Links, NoValue, Unknown}
@@ -32,39 +33,64 @@ rank Links = 22
 rank NoValue = 23
 rank Unknown = 24
 
--- what an option with a value gives
-unfoldable pub valued : List ℕ → Option Slot
-valued name =
-    if is_text name (codes "-p") || (is_text name (codes "--page") || is_text name (codes "--page-size")) then Some Page
-    else if is_text name (codes "-b") || (is_text name (codes "--block") || is_text name (codes "--block-size")) then Some Block
-    else if is_text name (codes "-s") || is_text name (codes "--size") then Some Size
-    else if is_text name (codes "--meta") || is_text name (codes "--meta-len") then Some Meta
+-- a word is one of two texts
+abbrev pub is_either : List ℕ → List ℕ → List ℕ → Bool
+is_either word one other = is_text word one || is_text word other
+
+-- what an option with a value gives, but for those of spiffsgen.py alone
+unfoldable pub plain_valued : List ℕ → Option Slot
+plain_valued name =
+    if is_either name (codes "-p") (codes "--page") then Some Page
+    else if is_either name (codes "-b") (codes "--block") then Some Block
+    else if is_either name (codes "-s") (codes "--size") then Some Size
+    else if is_text name (codes "--meta") then Some Meta
     else if is_text name (codes "--magic") then Some Magic
     else if is_text name (codes "--at") then Some At
     else if is_text name (codes "--for") then Some Preset
-    else if is_text name (codes "-c") || is_text name (codes "--create") then Some Create
-    else if is_text name (codes "-u") || is_text name (codes "--unpack") then Some Unpack
-    else if is_text name (codes "-d") || is_text name (codes "--debug") then Some Debug
+    else if is_either name (codes "-c") (codes "--create") then Some Create
+    else if is_either name (codes "-u") (codes "--unpack") then Some Unpack
+    else if is_either name (codes "-d") (codes "--debug") then Some Debug
+    else None
+
+-- what an option of spiffsgen.py with a value gives
+unfoldable pub gen_valued : List ℕ → Option Slot
+gen_valued name =
+    if is_text name (codes "--page-size") then Some Page
+    else if is_text name (codes "--block-size") then Some Block
+    else if is_text name (codes "--meta-len") then Some Meta
     else if is_text name (codes "--obj-name-len") then Some NameLength
     else None
 
--- what an option without a value gives
-unfoldable pub switched : List ℕ → Option Slot
-switched name =
-    if is_text name (codes "--use-magic-len") || is_text name (codes "--no-magic-len") then Some Magic
-    else if is_text name (codes "--dry-run") then Some DryRun
+-- what an option with a value gives
+abbrev pub valued : List ℕ → Option Slot
+valued name = option_or (plain_valued name) (gen_valued name)
+
+-- what an option without a value gives, but for those of spiffsgen.py
+unfoldable pub plain_switched : List ℕ → Option Slot
+plain_switched name =
+    if is_text name (codes "--dry-run") then Some DryRun
     else if is_text name (codes "--repair") then Some Repair
     else if is_text name (codes "--svg") then Some Svg
     else if is_text name (codes "--force") then Some Force
-    else if is_text name (codes "-l") || is_text name (codes "--list") then Some Lists
-    else if is_text name (codes "-i") || is_text name (codes "--visualize") then Some Visualize
-    else if is_text name (codes "-a") || is_text name (codes "--all-files") then Some AllFiles
+    else if is_either name (codes "-l") (codes "--list") then Some Lists
+    else if is_either name (codes "-i") (codes "--visualize") then Some Visualize
+    else if is_either name (codes "-a") (codes "--all-files") then Some AllFiles
+    else None
+
+-- what an option of spiffsgen.py without a value gives
+unfoldable pub gen_switched : List ℕ → Option Slot
+gen_switched name =
+    if is_either name (codes "--use-magic-len") (codes "--no-magic-len") then Some Magic
     else if is_text name (codes "--use-magic") then Some UseMagic
     else if is_text name (codes "--no-magic") then Some NoMagic
     else if is_text name (codes "--big-endian") then Some BigEndian
     else if is_text name (codes "--aligned-obj-ix-tables") then Some Aligned
     else if is_text name (codes "--follow-symlinks") then Some Links
     else None
+
+-- what an option without a value gives
+abbrev pub switched : List ℕ → Option Slot
+switched name = option_or (plain_switched name) (gen_switched name)
 
 -- the value that an option without one stands for
 unfoldable pub text_of : List ℕ → List ℕ

@@ -1,8 +1,10 @@
 -- The lines of scripts that words of the front mean, and the words of the top call.
-use Rattle.std.specs.Prelude.{ℕ, ◌+◌, ◌-◌, List, [], ◌∷◌, ◌++◌, codes, decimal, nat_lt, if◌then◌else◌}
+use Rattle.std.specs.Prelude.{ℕ, ◌+◌, ◌-◌, List, [], ◌∷◌, ◌++◌, Bool, not, ◌&&◌, codes, decimal, nat_lt, if◌then◌else◌}
 use Rattle.geometry.specs.declared.magic.MagicKind.{MagicKind}
 use Rattle.geometry.specs.declared.magic.MagicKind.TheVariants.{Plain, Length}
 use Rattle.table_model.specs.Ask.{Ask}
+use Rattle.table_model.specs.Names.{is_bad_name}
+use Rattle.call_script.specs.Lines.{is_text}
 use Rattle.call_script.specs.Printing.{spelling}
 use Rattle.front_words.specs.declared.word.Word.{Word}
 use Rattle.front_words.specs.declared.word.Word.TheVariants.{Ls, Pack, Gen, Unpack, Fsck, Cat, Put, Rm, Mv, Df, Size, Picture}
@@ -20,6 +22,18 @@ turned b = if nat_lt b 128 then b + 128 else b - 128
 abbrev pub working : List ℕ → List ℕ
 working [] = []
 working (b ∷ bs) = turned b ∷ bs
+
+-- the name of a file that is being written
+abbrev pub scratch : List ℕ
+scratch = 1 ∷ []
+
+-- a name that a file can have beside one that is being written
+unfoldable pub is_free : List ℕ → Bool
+is_free name = not (is_bad_name name) && not (is_text name scratch)
+
+-- a file can be put under a name: both it and its working name are such
+unfoldable pub can_put : List ℕ → Bool
+can_put name = is_free name && is_free (working name)
 
 -- the command of the top call that does what a word asks
 abbrev pub command_of : Word → List ℕ

@@ -1,5 +1,5 @@
 ghost use Rattle.std.specs.Prelude.{◌≡◌, Option};
-ghost use Rattle.front_words.specs.Options.{valued, switched, rank, text_of as text_for};
+ghost use Rattle.front_words.specs.Options.{is_either as either, plain_valued, gen_valued, valued, plain_switched, gen_switched, switched, rank, text_of as text_for};
 
 use crate::word::is;
 
@@ -93,18 +93,25 @@ impl Slot {
     }
 }
 
-/// What an option with a value gives.
-#[tactic(auto, unfolding(crate::specs::Options::valued))]
-pub(crate) fn valued_slot(name: &[u8]) -> Option<Slot>
-    ensures { result ≡ valued name.now }
+// Whether a word is one of two texts.
+fn is_either(word: &[u8], one: &[u8], other: &[u8]) -> bool
+    ensures { result ≡ either word.now one.now other.now }
 {
-    if is(name, b"-p") || is(name, b"--page") || is(name, b"--page-size") {
+    is(word, one) || is(word, other)
+}
+
+// What an option with a value gives, but for those of spiffsgen.py alone.
+#[tactic(auto, unfolding(crate::specs::Options::plain_valued))]
+fn plain_valued_slot(name: &[u8]) -> Option<Slot>
+    ensures { result ≡ plain_valued name.now }
+{
+    if is_either(name, b"-p", b"--page") {
         Some(Slot::Page)
-    } else if is(name, b"-b") || is(name, b"--block") || is(name, b"--block-size") {
+    } else if is_either(name, b"-b", b"--block") {
         Some(Slot::Block)
-    } else if is(name, b"-s") || is(name, b"--size") {
+    } else if is_either(name, b"-s", b"--size") {
         Some(Slot::Size)
-    } else if is(name, b"--meta") || is(name, b"--meta-len") {
+    } else if is(name, b"--meta") {
         Some(Slot::Meta)
     } else if is(name, b"--magic") {
         Some(Slot::Magic)
@@ -112,12 +119,28 @@ pub(crate) fn valued_slot(name: &[u8]) -> Option<Slot>
         Some(Slot::At)
     } else if is(name, b"--for") {
         Some(Slot::Preset)
-    } else if is(name, b"-c") || is(name, b"--create") {
+    } else if is_either(name, b"-c", b"--create") {
         Some(Slot::Create)
-    } else if is(name, b"-u") || is(name, b"--unpack") {
+    } else if is_either(name, b"-u", b"--unpack") {
         Some(Slot::Unpack)
-    } else if is(name, b"-d") || is(name, b"--debug") {
+    } else if is_either(name, b"-d", b"--debug") {
         Some(Slot::Debug)
+    } else {
+        None
+    }
+}
+
+// What an option of spiffsgen.py with a value gives.
+#[tactic(auto, unfolding(crate::specs::Options::gen_valued))]
+fn gen_valued_slot(name: &[u8]) -> Option<Slot>
+    ensures { result ≡ gen_valued name.now }
+{
+    if is(name, b"--page-size") {
+        Some(Slot::Page)
+    } else if is(name, b"--block-size") {
+        Some(Slot::Block)
+    } else if is(name, b"--meta-len") {
+        Some(Slot::Meta)
     } else if is(name, b"--obj-name-len") {
         Some(Slot::NameLength)
     } else {
@@ -125,14 +148,22 @@ pub(crate) fn valued_slot(name: &[u8]) -> Option<Slot>
     }
 }
 
-/// What an option without a value gives.
-#[tactic(auto, unfolding(crate::specs::Options::switched))]
-pub(crate) fn switched_slot(name: &[u8]) -> Option<Slot>
-    ensures { result ≡ switched name.now }
+/// What an option with a value gives.
+pub(crate) fn valued_slot(name: &[u8]) -> Option<Slot>
+    ensures { result ≡ valued name.now }
 {
-    if is(name, b"--use-magic-len") || is(name, b"--no-magic-len") {
-        Some(Slot::Magic)
-    } else if is(name, b"--dry-run") {
+    match plain_valued_slot(name) {
+        Some(slot) => Some(slot),
+        None => gen_valued_slot(name),
+    }
+}
+
+// What an option without a value gives, but for those of spiffsgen.py.
+#[tactic(auto, unfolding(crate::specs::Options::plain_switched))]
+fn plain_switched_slot(name: &[u8]) -> Option<Slot>
+    ensures { result ≡ plain_switched name.now }
+{
+    if is(name, b"--dry-run") {
         Some(Slot::DryRun)
     } else if is(name, b"--repair") {
         Some(Slot::Repair)
@@ -140,12 +171,24 @@ pub(crate) fn switched_slot(name: &[u8]) -> Option<Slot>
         Some(Slot::Svg)
     } else if is(name, b"--force") {
         Some(Slot::Force)
-    } else if is(name, b"-l") || is(name, b"--list") {
+    } else if is_either(name, b"-l", b"--list") {
         Some(Slot::List)
-    } else if is(name, b"-i") || is(name, b"--visualize") {
+    } else if is_either(name, b"-i", b"--visualize") {
         Some(Slot::Visualize)
-    } else if is(name, b"-a") || is(name, b"--all-files") {
+    } else if is_either(name, b"-a", b"--all-files") {
         Some(Slot::AllFiles)
+    } else {
+        None
+    }
+}
+
+// What an option of spiffsgen.py without a value gives.
+#[tactic(auto, unfolding(crate::specs::Options::gen_switched))]
+fn gen_switched_slot(name: &[u8]) -> Option<Slot>
+    ensures { result ≡ gen_switched name.now }
+{
+    if is_either(name, b"--use-magic-len", b"--no-magic-len") {
+        Some(Slot::Magic)
     } else if is(name, b"--use-magic") {
         Some(Slot::UseMagic)
     } else if is(name, b"--no-magic") {
@@ -158,6 +201,16 @@ pub(crate) fn switched_slot(name: &[u8]) -> Option<Slot>
         Some(Slot::Links)
     } else {
         None
+    }
+}
+
+/// What an option without a value gives.
+pub(crate) fn switched_slot(name: &[u8]) -> Option<Slot>
+    ensures { result ≡ switched name.now }
+{
+    match plain_switched_slot(name) {
+        Some(slot) => Some(slot),
+        None => gen_switched_slot(name),
     }
 }
 

@@ -1,8 +1,9 @@
 ghost use Rattle.std.specs.Prelude.{◌≡◌, ◌+◌, ◌*◌, ◌≤◌, ◌<◌, length};
 ghost use Rattle.table_model.specs.Ask.{Removes, Renames, Opens, Writes, Closes, Informs};
 ghost use Rattle.call_script.specs.Pieces.{Puts};
-ghost use Rattle.front_words.specs.Scripts.{line_of, turned as the_turned, working};
+ghost use Rattle.front_words.specs.Scripts.{line_of, turned as the_turned, working, is_free as the_free, can_put};
 
+use crate::word::is;
 use call_script::{put, put_behind_space, put_count};
 
 /// The most bytes of a file that one line of a script writes.
@@ -99,7 +100,21 @@ pub fn make_working(name: &mut [u8])
     }
 }
 
-/// Whether a file can be put under a name: neither its working name nor that of a file that is being written stands in its way.
-pub fn can_be_put(name: &[u8]) -> bool {
-    !matches!(name, [] | [128, ..] | [1] | [129])
+// Whether a file can have a name beside one that is being written: it isn't empty, holds no zero byte and isn't `SCRATCH`.
+#[tactic(auto, unfolding(crate::specs::Scripts::is_free))]
+fn is_free(name: &[u8]) -> bool
+    ensures { result ≡ the_free name.now }
+{
+    !name.is_empty() && !name.contains(&0) && !is(name, SCRATCH)
+}
+
+/// Whether a file can be put under a name: it and its working name aren't empty, hold no zero byte and aren't `SCRATCH`.
+#[tactic(auto, using(crate::proofs::Working::put_by, crate::proofs::Working::put_not, crate::proofs::Working::free_some))]
+pub fn can_be_put(name: &[u8]) -> bool
+    ensures { result ≡ can_put name.now }
+{
+    if !is_free(name) {
+        return false;
+    }
+    name[0] != 128 && !is(name, b"\x81")
 }

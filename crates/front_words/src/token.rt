@@ -1,4 +1,4 @@
-ghost use Rattle.std.specs.Prelude.{◌≡◌, ◌∷◌, ◌<◌, ◌≤◌, ⊤, [], length, map, string_bytes, MatchOption};
+ghost use Rattle.std.specs.Prelude.{◌≡◌, ◌∷◌, ◌<◌, ◌≤◌, ⊤, [], length, map, string_bytes, MatchOption, IfSome};
 ghost use Rattle.std.specs.Option.{option_copied};
 ghost use Rattle.front_words.specs.Options.{switched};
 ghost use Rattle.front_words.specs.Tokens.{sort, sort_of, option_sort, switch_sort, part_of, rest_parts, ended_parts, valued_parts, sorted_parts, name_at, value_at, equals_at};
@@ -25,12 +25,20 @@ pub(crate) enum Token<'w> {
     Chosen(Slot, &'w [u8]),
 }
 
+// Where the first `=` of a word stands.
+fn find_equals(word: &[u8]) -> Option<usize>
+    ensures at { result ≡ equals_at word.now }
+    ensures inside { IfSome result (λ i. i < length word.now) }
+{
+    word.iter().position(|byte| *byte == b'=')
+}
+
 // What stands before and behind the first `=` of a word.
 fn cut(word: &[u8]) -> (&[u8], Option<&[u8]>)
     ensures name { result.0.now ≡ name_at word.now (equals_at word.now) }
     ensures value { option_copied result.1 ≡ value_at word.now (equals_at word.now) }
 {
-    match word.iter().position(|byte| *byte == b'=') {
+    match find_equals(word) {
         Some(i) => (&word[..i], Some(&word[i + 1..])),
         None => (word, None),
     }
