@@ -70,7 +70,10 @@ set_target() {
     mkdir -p "$3/crates"
     ln -sfn "$debian_crates"/* "$sources"/vendor/* "$3/crates/"
     # (Debian's rustc has no linker of its own for these)
-    case $1 in thumb*) linker=CARGO_TARGET_${name^^}_LINKER=arm-none-eabi-ld ;; esac
+    case $1 in
+      thumb*) linker=CARGO_TARGET_${name^^}_LINKER=arm-none-eabi-ld ;;
+      wasm32*) linker=CARGO_TARGET_${name^^}_LINKER=wasm-ld ;;
+    esac
     # (without backtraces, for which six more crates would be built)
     [ "$2" != std ] || library+=",panic_abort -Zbuild-std-features=panic-unwind"
     rustc=/usr/bin/rustc
@@ -85,7 +88,7 @@ set_target() {
 # ones, which it doesn't find in the next build without them.
 lock_crates() {
   local workspace
-  for workspace in "$1" "$1/spiffs_c" "$1/firmware"; do
+  for workspace in "$1" "$1/spiffs_c" "$1/firmware" "$1/web"; do
     (cd "$workspace" && { [ -e Cargo.lock ] || /usr/bin/cargo generate-lockfile --quiet --offline; }) || return
   done
 }

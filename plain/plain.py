@@ -41,8 +41,11 @@ PACKAGES = [
     Package("spiffs", ["spiffs"]),
     Package("script_rows", ["script_rows"]),
     Package("image_explain", ["image_explain"]),
-    Package("plain_tests", ["base_tests", "engine_tests", "firmware_example"]),
+    Package("plain_tests", ["host_tests", "firmware_example"]),
 ]
+
+# Crates that reach the files and streams of a host: they are built for Unix alone.
+HOST_CRATES = {"host_edge"}
 
 # Crates of a registry.
 REGISTRY = {
@@ -187,7 +190,7 @@ class Edition:
             text += '#![no_std]\n#![forbid(unsafe_code)]\n\n#[cfg(feature = "std")]\nextern crate std;\n\n'
             text += '#[cfg(target_pointer_width = "16")]\ncompile_error!("16 bits of address are too few");\n\n'
         text += "".join(f"#[doc(inline)]\npub use self::{name}::*;\n" for name in package.exported)
-        return text + "\n" + "".join(f"pub mod {name};\n" for name in modules)
+        return text + "\n" + "".join(("#[cfg(unix)]\n" if name in HOST_CRATES else "") + f"pub mod {name};\n" for name in modules)
 
     def manifest(self, package, uses):
         text = f'[package]\nname = "{package.name}"\nversion = "0.1.0"\nedition = "2024"\nrust-version = "1.87"\n'

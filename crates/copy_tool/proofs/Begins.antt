@@ -33,7 +33,8 @@ status_by (Ok x) = 0
 status_by (Err ending) = status_of ending
 
 -- nor is a fault of the source told then
-pub not_source : {T R : Type 0} (ending : Ending) → MayEndBegin ending → Err {T} ending ≡ Err SourceChipFault → R
+pub not_source : {T R : Type 0} (ending : Ending) → MayEndBegin ending → ◌≡◌ {A = Result T Ending} (Err ending) (Err SourceChipFault) → R
+unfolding status_by
 not_source {T} ending may is = absurd ((of_target ending may).no_source (ap (λ (r : Result T Ending). status_by r) is))
 
 -- ---- the endings of a copy

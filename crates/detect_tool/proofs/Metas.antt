@@ -5,7 +5,6 @@ use Rattle.geometry.specs.declared.geometry.Geometry.{Geometry}
 use Rattle.geometry.specs.Rules.{IsVolume}
 use Rattle.geometry.proofs.Geometries.{made}
 use Rattle.image_model.specs.Tables.{table_of}
-use Rattle.meta_tally.specs.Counted.{IsAlike}
 use Rattle.meta_laws.specs.Other.{TellsMeta}
 use Rattle.meta_laws.proofs.Fewer.{other_reads_fewer}
 use Rattle.meta_guess.specs.Guesses.{SameBut}
@@ -39,17 +38,14 @@ with_meta g m few = made g.page g.block g.blocks g.phys m g.magic rules g.pages_
 
 with_same : (g : Geometry) (m : ℕ) (few : m ≤ 64) → SameBut g (with_meta g m few)
 unfolding made with_meta
-with_same g m few = record { page = refl; block = refl; blocks = refl; phys = refl; magic = refl }
+with_same g m few = record { page_is = refl; block_is = refl; blocks_is = refl; phys_is = refl; meta_is = refl; magic_is = refl }
 
 with_is : (g : Geometry) (m : ℕ) (few : m ≤ 64) → (with_meta g m few).meta ≡ m
 unfolding made with_meta
 with_is g m few = refl
 
-alike_as : (g h : Geometry) → SameBut g h → IsAlike g h
-alike_as g h same = record { page_is = same.page; block_is = same.block; blocks_is = same.blocks; phys_is = same.phys; meta_is = refl; magic_is = same.magic }
-
 turned : (a b : Geometry) → SameBut a b → SameBut b a
-turned a b same = record { page = sym same.page; block = sym same.block; blocks = sym same.blocks; phys = sym same.phys; magic = sym same.magic }
+turned a b same = record { page_is = sym same.page_is; block_is = sym same.block_is; blocks_is = sym same.blocks_is; phys_is = sym same.phys_is; meta_is = refl; magic_is = sym same.magic_is }
 
 pub own_meta : (file : List ℕ) (g : Geometry) (f : Found) → TellsMeta g file → IsFoundFor file g f → TellsOwnMeta g f
 own_meta file g f tells is =
@@ -58,7 +54,7 @@ own_meta file g f tells is =
     subst (λ (l : List ℕ). IsRange a l (record { first = f.volume.meta; last = f.last_meta; counts = f.counts })) (ap (λ (n : ℕ). drop n file) is.first) is.found.range in
     let same : SameBut a g = same_as a f.volume g is.found.volume.same is.same in
     let most : length (table_of g file) ≤ f.counts.whole = range.most g same in
-    let fewer : (h : Geometry) → SameBut g h → h.meta ≢ g.meta → length (table_of h file) < length (table_of g file) = λ h alike differ. other_reads_fewer g h file (alike_as g h alike) tells differ in
+    let fewer : (h : Geometry) → SameBut g h → h.meta ≢ g.meta → length (table_of h file) < length (table_of g file) = λ h alike differ. other_reads_fewer g h file alike tells differ in
     let first : f.volume.meta ≡ g.meta = ⊎_elim
     (λ (e : f.volume.meta ≡ g.meta). e)
     (λ (differ : f.volume.meta ≡ g.meta → ⊥).

@@ -29,5 +29,7 @@ pub use script::{
     ANEW, ON, PIECE, SCRATCH, can_be_put, close_line, info_line, make_working, open_line,
     remove_line, rename_line, write_line,
 };
-pub use settling::{Candidate, Unsettled, Volume, settle, wants_detect};
+pub use settling::{
+    Candidate, Unsettled, Volume, known_block, known_meta, known_page, settle, wants_detect,
+};
 pub use word::{Preset, Word, is_own};

@@ -121,22 +121,22 @@ fn meta_of(preset: Option<Preset>) -> Option<u32>
     }
 }
 
-// The page, where it is known without a look at the file.
-fn known_page(asked: &Asked) -> Option<u32>
+/// Bytes of a page, where it is known without a look at the file: given, or those of a preset.
+pub fn known_page(asked: &Asked) -> Option<u32>
     ensures { result ≡ the_page asked.now }
 {
     first_of(asked.page, preset_page(preset_of(asked)))
 }
 
-// The block.
-fn known_block(asked: &Asked) -> Option<u32>
+/// Bytes of a block, in the same way.
+pub fn known_block(asked: &Asked) -> Option<u32>
     ensures { result ≡ the_block asked.now }
 {
     first_of(asked.block, preset_block(preset_of(asked)))
 }
 
-// The meta bytes.
-fn known_meta(asked: &Asked) -> Option<u32>
+/// Meta bytes of a file, in the same way.
+pub fn known_meta(asked: &Asked) -> Option<u32>
     ensures { result ≡ the_meta asked.now }
 {
     first_of(asked.meta, meta_of(preset_of(asked)))

@@ -2,6 +2,8 @@
 use crate::cat::cat;
 use crate::give::{Guard, chip_copy, chip_file, end_told, give_on, row_of};
 use crate::meant::{Meant, find_meant};
+use crate::picture::picture;
+use crate::room::{df, size};
 use crate::stop::Stop;
 use crate::store::{put, remove, rename};
 use crate::trees::{pack, unpack};
@@ -22,13 +24,6 @@ fn refuse_line(rt: &HostRuntime, words: &[String], why: LineRefusal) -> u8 {
             let _said = eprintln!(rt; "spiffs: {why}; try spiffs --help");
         }
     }
-    status
-}
-
-// Says that a word is known and not done here yet.
-fn refuse_word(rt: &HostRuntime, name: &str) -> u8 {
-    let status = tell(rt, "! usage\n", USAGE);
-    let _said = eprintln!(rt; "spiffs: {name} isn't done by this program yet");
     status
 }
 
@@ -73,11 +68,8 @@ fn check(rt: &HostRuntime, meant: &Meant<'_>) -> Result<u8, Stop> {
 
 // Does what a line asks.
 fn perform(rt: &HostRuntime, words: &[String], asked: Asked) -> Result<u8, Stop> {
-    match asked.word {
-        Word::Df => return Ok(refuse_word(rt, "df")),
-        Word::Size => return Ok(refuse_word(rt, "size")),
-        Word::Picture => return Ok(refuse_word(rt, "picture")),
-        _ => {}
+    if asked.word == Word::Size {
+        return size(rt, words, &asked);
     }
     let mut meant = find_meant(rt, words, asked)?;
     match asked.word {
@@ -88,6 +80,8 @@ fn perform(rt: &HostRuntime, words: &[String], asked: Asked) -> Result<u8, Stop>
         Word::Put => put(rt, &meant),
         Word::Rm => remove(rt, &meant),
         Word::Mv => rename(rt, &meant),
+        Word::Df => df(rt, &meant),
+        Word::Picture => picture(rt, &meant),
         _ => list(rt, &meant),
     }
 }

@@ -17,6 +17,7 @@ use std::alloc::AllocError;
 use std::io;
 use std::io::Write;
 use tool_core::{is_accepted, spiffs_tool};
+use tool_parts::{Ending, closing_line};
 
 /// Whether another META is tried before a command.
 #[derive(Clone, Copy, Debug, PartialEq, Eq)]
@@ -188,4 +189,13 @@ pub fn end_told<C: HostChip>(rt: &HostRuntime, meant: &Meant<'_>, told: &Told<C>
     }
     explain_told(rt, meant, told);
     told.status
+}
+
+/// Prints the closing line of an ending, and answers its status.
+pub fn end_by(rt: &HostRuntime, ending: Ending) -> u8 {
+    if print_bytes(rt, closing_line(ending).as_slice()) {
+        ending.status()
+    } else {
+        BOARD_FAULT
+    }
 }

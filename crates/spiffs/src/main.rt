@@ -12,6 +12,8 @@ mod give;
 mod help;
 mod look;
 mod meant;
+mod picture;
+mod room;
 mod script;
 mod stop;
 mod store;

@@ -33,8 +33,8 @@ fn entries_of<'f>(bad: &BadName<'f>) -> (&'f str, &'f str) {
     }
 }
 
-// Says which file of a tree has a name that no file of a volume can have.
-fn explain_name(
+/// Says which file of a tree has a name that no file of a volume can have.
+pub fn explain_name(
     rt: &HostRuntime,
     tree: &TreeFiles<&HostRuntime>,
     bad: BadName<'_>,
@@ -46,8 +46,8 @@ fn explain_name(
     eprintln!(rt; "spiffs: {told}")
 }
 
-// Says what of a tree was passed over.
-fn explain_passed(rt: &HostRuntime, tree: &TreeFiles<&HostRuntime>) -> io::Result<()> {
+/// Says what of a tree was passed over.
+pub fn explain_passed(rt: &HostRuntime, tree: &TreeFiles<&HostRuntime>) -> io::Result<()> {
     for number in 0..usize::MAX {
         let Some(path) = tree.passed_over(number)? else {
             return Ok(());

@@ -1,5 +1,5 @@
 -- Endings that a step may have are endings that a command may have.
-use Rattle.std.proofs.Common.{◌≡◌, ◌≢◌, ℕ, Bool, true, false, if◌then◌else◌, sym, ◌∙◌, ap, refl, ⊎_elim, subst, Result, Ok, Err}
+use Rattle.std.proofs.Common.{◌≡◌, ◌≢◌, ℕ, Bool, true, false, if◌then◌else◌, sym, ◌∙◌, ap, refl, ⊎_elim, subst, Some, Result, Ok, Err}
 use Rattle.std.specs.Prelude.{nat_lt, IfErr}
 use Rattle.std.proofs.lemmas.Bool.{cases_Bool}
 use Rattle.geometry.specs.declared.geometry.Geometry.{Geometry}
@@ -8,11 +8,13 @@ use Rattle.folder_core.specs.declared.state.FolderState.{Ghosts as FolderOf}
 use Rattle.table_model.specs.declared.error.FsErr.{FsErr}
 use Rattle.table_model.specs.declared.error.FsErr.TheVariants.{DeviceFault, Damaged as TheDamaged, Failed, NotFound, Tight as TooTight}
 use Rattle.table_model.specs.declared.error.Differ.{Differ as Differs}
+use Rattle.table_model.specs.Reply.{Fine, Refuses}
 use Rattle.vol_mount.specs.declared.lent.MountErr.{MountErr}
 use Rattle.vol_mount.specs.declared.lent.MountErr.TheVariants.{NotAFs as MountNotAFs, DeviceFault as MountFault}
 use Rattle.volume.specs.declared.volume.Volume.{Volume}
 use Rattle.volume.specs.declared.map_calls.MapErr.{MapErr}
 use Rattle.volume.specs.declared.map_calls.MapErr.TheVariants.{Call, NoMap, NotMapped, MapBusy}
+use Rattle.volume.specs.Replies.{told}
 use Rattle.volume.specs.Settles.{SettledOr}
 use Rattle.volume.specs.Stages.{takes_calls}
 use Rattle.volume.proofs.RunSettling.{unmounts_open}
@@ -56,7 +58,7 @@ pub check_in_map : (ending : Ending) → MayEndCheck ending → MayEndMap ending
 check_in_map (NotAFs spoiled) may = may
 check_in_map (Mixed blocks) may = may
 check_in_map BoardFault may = may
-check_in_map (Differ differ) may = tt {0}
+check_in_map (Differ differ) may = may
 check_in_map _ may = absurd may
 
 -- ---- a list or a report that was said
@@ -90,23 +92,23 @@ unsettled_among DeviceFault apart = tt {0}
 unsettled_among (TheDamaged d) apart = apart d refl
 unsettled_among _ apart = tt {0}
 
-unsettled_in_map : (why : FsErr) → MayEndMap (unsettled_as why)
-unsettled_in_map DeviceFault = tt {0}
-unsettled_in_map (TheDamaged d) = tt {0}
-unsettled_in_map _ = tt {0}
+unsettled_in_map : (why : FsErr) → ((d : Differs) → why ≡ TheDamaged d → d.wanted ≢ d.found) → MayEndMap (unsettled_as why)
+unsettled_in_map DeviceFault apart = tt {0}
+unsettled_in_map (TheDamaged d) apart = apart d refl
+unsettled_in_map _ apart = tt {0}
 
-pub unmapped_among : (id : ℕ) (why : MapErr) → MayEndMap (unmapped_as id why)
-unmapped_among id (Call NotFound) = tt {0}
-unmapped_among id (Call why) = unsettled_in_map why
-unmapped_among id _ = tt {0}
+pub unmapped_among : (id : ℕ) (why : MapErr) → ((d : Differs) → Some why ≡ Some (Call (TheDamaged d)) → d.wanted ≢ d.found) → MayEndMap (unmapped_as id why)
+unmapped_among id (Call NotFound) apart = tt {0}
+unmapped_among id (Call why) apart = unsettled_in_map why (λ d is. apart d (ap (λ (w : FsErr). Some (Call w)) is))
+unmapped_among id _ apart = tt {0}
 
 -- garbage collection that isn't stuck
-pub collected_among : (told : Result (Unit {0}) FsErr) → IfErr (collected_as told) MayEndMap
-collected_among (Ok done) = tt {0}
-collected_among (Err TooTight) = tt {0}
-collected_among (Err DeviceFault) = tt {0}
-collected_among (Err (TheDamaged d)) = tt {0}
-collected_among (Err _) = tt {0}
+pub collected_among : (result : Result (Unit {0}) FsErr) → ((d : Differs) → told (λ done. Fine) result ≡ Refuses (TheDamaged d) → d.wanted ≢ d.found) → IfErr (collected_as result) MayEndMap
+collected_among (Ok done) apart = tt {0}
+collected_among (Err TooTight) apart = tt {0}
+collected_among (Err DeviceFault) apart = tt {0}
+collected_among (Err (TheDamaged d)) apart = apart d refl
+collected_among (Err _) apart = tt {0}
 
 module _ {N : Type 0} {nor : NorOf N} {old new : Volume N nor} {last : Result (Unit {0}) FsErr} (takes : takes_calls old ≡ true → SettledOr old new last) (closed : takes_calls old ≡ false → (last ≡ Err Failed) × (new ≡ old)) where
   -- of a page that reads otherwise as the written bytes are put onto the chip, two tags are told that differ
@@ -119,8 +121,8 @@ module _ {N : Type 0} {nor : NorOf N} {old new : Volume N nor} {last : Result (U
 -- ---- a make
 
 -- a folder of which no image can be made
-pub stops_among : {X : Type 0} {folder : FolderOf X} {g : Geometry} {before after : X} (ending : Ending) → StopsMake folder g before after ending → MayEndMake ending
-stops_among ending stops = ⊎_elim
+pub stops_among : {X : Type 0} (folder : FolderOf X) (g : Geometry) (before after : X) (ending : Ending) → StopsMake folder g before after ending → MayEndMake ending
+stops_among folder g before after ending stops = ⊎_elim
     (λ fault. subst (λ (e : Ending). MayEndMake e) (sym fault.0) (tt {0}))
     (λ refused. subst (λ (e : Ending). MayEndMake e) (sym refused.2) (refused_among refused.0))
     stops

@@ -49,7 +49,7 @@ MayEndMake (Tight free) = Unit {0}
 MayEndMake (Differ differ) = differ.wanted ≢ differ.found
 MayEndMake _ = ⊥
 
--- a map; of two tags it isn't said that they differ
+-- a map
 abbrev pub MayEndMap : Ending → Type 0
 MayEndMap Done = Unit {0}
 MayEndMap (NotAFs spoiled) = Unit {0}
@@ -57,7 +57,7 @@ MayEndMap (Mixed blocks) = Unit {0}
 MayEndMap BoardFault = Unit {0}
 MayEndMap (Tight free) = Unit {0}
 MayEndMap (NoSuchId id) = Unit {0}
-MayEndMap (Differ differ) = Unit {0}
+MayEndMap (Differ differ) = differ.wanted ≢ differ.found
 MayEndMap _ = ⊥
 
 -- each command

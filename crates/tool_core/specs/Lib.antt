@@ -8,6 +8,7 @@ pub mod Extracting
 pub mod Filling
 pub mod Soaking
 pub mod Making
+pub mod Telling
 pub mod Scrubbing
 pub mod Mapping
 pub mod Does

@@ -5,6 +5,7 @@
 mod checking;
 mod extracting;
 mod finishing;
+mod laws;
 mod listing;
 mod making;
 mod mapping;
@@ -14,5 +15,6 @@ mod soaking;
 mod tool;
 mod words;
 
+pub use laws::made_volumes_tell_their_meta;
 pub use plan::is_accepted;
 pub use tool::spiffs_tool;

@@ -1,7 +1,9 @@
 -- Killing the header pages of damaged files, one after the other.
-use Rattle.std.proofs.Common.{◌≡◌, ℕ, ◌+◌, ◌<◌, ◌≤◌, List, [], length, Bool, cond, Option, Some, None, Result, ap, refl, ◌∙◌, arith, ⊎_elim}
+use Rattle.std.proofs.Common.{◌≡◌, ℕ, ◌+◌, ◌<◌, ◌≤◌, List, [], length, Bool, cond, Option, Some, None, Result, Ok, ap, refl, ◌∙◌, arith, ⊎_elim}
 use Rattle.std.proofs.lemmas.Bool.{cases_lt, cases_eq}
 use Rattle.geometry.specs.declared.geometry.Geometry.{Geometry}
+use Rattle.nor_core.specs.declared.state.NorState.{Ghosts as NorOf}
+use Rattle.image_model.specs.Sound.{HasMagics}
 use Rattle.image_model.specs.Live.{live_at}
 use Rattle.table_model.specs.Table.{File}
 use Rattle.image_model.specs.declared.damage.Damage.{Damage}
@@ -10,7 +12,8 @@ use Rattle.image_laws.proofs.Finish.{has_of-within}
 use Rattle.file_find.specs.Marks.{IsMarked, NextHead, cause_at}
 use Rattle.file_find.proofs.Stepping.{gap, past}
 use Rattle.vol_check.specs.Culls.{HasNoDoubles, Passes, PassesDamaged}
-use Rattle.vol_check.specs.Works.{Work, TurnsHead, culling_head, culling_damaged}
+use Rattle.flash_view.specs.declared.view.View.{View}
+use Rattle.vol_check.specs.Works.{Work, Worked, TurnsHead, culling_head, culling_damaged}
 use Rattle.vol_check.proofs.Working.{Goes}
 use Rattle.vol_check.proofs.Passing.{passes_none, passes_next}
 use Rattle.vol_check.proofs.Heads.{none_damaged, damaged_none}
@@ -25,6 +28,13 @@ pub record Heading (g : Geometry) (first now marks : List ℕ) (at n : ℕ) : Ty
 
 abbrev pub heading_to : ℕ → List ℕ → Work ℕ
 heading_to at marks = record { needs = λ g was. HasNoDoubles g was; done = λ g was now n. Heading g was now marks at n; idle = λ g was. damaged_of g was ≡ [] }
+
+-- so far the marks are right
+pub heading_marks : {N : Type 0} {nor : NorOf N} {old now : View N nor} {at n : ℕ} {marks : List ℕ} → Worked old now (Ok n) (heading_to at marks) → (nor.tells old.nor.now → HasMagics old.geometry (nor.bytes old.nor.now)) →
+    (nor.tells old.nor.now → HasNoDoubles old.geometry (nor.bytes old.nor.now)) → nor.tells now.nor.now → IsMarked now.geometry (nor.bytes now.nor.now) marks
+heading_marks was magics single tells =
+    let first = was.step.cuts.cuts.told_before tells in
+    rw was.step.framed.same.geometry (was.step.ends first (magics first, single first)).marked
 
 pub heading_start : (g : Geometry) (a marks : List ℕ) → HasNoDoubles g a → IsMarked g a marks → Heading g a a marks 0 0
 heading_start g a marks single marked = record { marked = marked; passes = passes_none g a; single = single; none = λ j low high. absurd (omega arith); count = omega arith }

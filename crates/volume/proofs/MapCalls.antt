@@ -1,5 +1,5 @@
 -- Calls of maps: what waits is put onto the chip, and then pages are read.
-use Rattle.std.proofs.Common.{◌≡◌, ◌⊎◌, ⊎_elim, inl, inr, ◌+◌, ◌≤◌, ℕ, List, [], length, Bool, true, false, refl, sym, ◌∙◌, ap, subst, arith}
+use Rattle.std.proofs.Common.{◌≡◌, ◌≢◌, ◌⊎◌, ⊎_elim, inl, inr, ◌+◌, ◌≤◌, ℕ, List, [], length, Bool, true, false, refl, sym, ◌∙◌, ap, subst, arith}
 use Rattle.std.specs.Prelude.{Option, Some, None, Result, Ok, Err, IfErr, OnOk, nat_lt, option_and_then, ◌==◌, if◌then◌else◌}
 use Rattle.std.specs.Option.{is_some}
 use Rattle.std.proofs.lemmas.Bool.{cases_Bool}
@@ -9,8 +9,9 @@ use Rattle.nor_core.specs.declared.state.NorState.{Ghosts as NorOf}
 use Rattle.nor_core.specs.Count.{Rose}
 use Rattle.nor_core.specs.Device.{OnlyReads}
 use Rattle.nor_core.proofs.Cuts.{unchanged, read_after}
+use Rattle.table_model.specs.declared.error.Differ.{Differ}
 use Rattle.table_model.specs.declared.error.FsErr.{FsErr}
-use Rattle.table_model.specs.declared.error.FsErr.TheVariants.{Failed, DeviceFault, NotFound, BadDescriptor}
+use Rattle.table_model.specs.declared.error.FsErr.TheVariants.{Failed, DeviceFault, NotFound, BadDescriptor, Damaged}
 use Rattle.table_model.specs.Table.{File, State, file_of, has_id}
 use Rattle.table_model.specs.Reply.{Answer}
 use Rattle.table_model.specs.Window.{Moment, settled_at, from_settled, IsAmong}
@@ -97,6 +98,19 @@ missing_no_fault e = cc
 
 pub descriptor_no_fault : BadDescriptor ≡ DeviceFault → ⊥
 descriptor_no_fault e = cc
+
+-- nor does a page read otherwise
+missing_no_page : (d : Differ) → NotFound ≡ Damaged d → ⊥
+missing_no_page d e = cc
+
+fault_no_page : (d : Differ) → DeviceFault ≡ Damaged d → ⊥
+fault_no_page d e = cc
+
+failed_no_page : (d : Differ) → Failed ≡ Damaged d → ⊥
+failed_no_page d e = cc
+
+pub descriptor_no_page : (d : Differ) → BadDescriptor ≡ Damaged d → ⊥
+descriptor_no_page d e = cc
 
 -- no call broke
 pub stage_fine : (had : Bool) (reply : Answer) → breaks reply ≡ false → stage_after had reply ≡ Checked
@@ -203,6 +217,13 @@ module _ {N : Type 0} {nor : NorOf N} where
       subst (λ (w : FsErr). SettlesAndReads old new (Some (Call w))) (sym (same_why settling why Failed is c.0)) (subst (λ (v : Volume N nor). SettlesAndReads old v (Some (Call Failed))) (sym c.1) (closed_call old shut)))
       (cases_Bool (takes_calls old))
 
+  -- of a page that reads otherwise, two tags are told that differ
+  stopped_differs : {old new : Volume N nor} (why : FsErr) (settling : Result Bool FsErr) → settling ≡ Err why → (takes_calls old ≡ false → (settling ≡ Err Failed) × (new ≡ old)) → (takes_calls old ≡ true → Settles old new settling) → (d : Differ) → why ≡ Damaged d → d.wanted ≢ d.found
+  stopped_differs {old} {new} why settling is closed settles d e = ⊎_elim
+      (λ (takes : takes_calls old ≡ true). (subst (λ (r : Result Bool FsErr). Settles old new r) is (settles takes)).stops.differs d e)
+      (λ (shut : takes_calls old ≡ false). absurd (failed_no_page d (sym (same_why settling why Failed is (closed shut).0) ∙ e)))
+      (cases_Bool (takes_calls old))
+
   -- on a volume that stands at a moment it is a fault
   pub stops_fault : {old new : Volume N nor} (why : FsErr) (settling : Result Bool FsErr) → settling ≡ Err why → (takes_calls old ≡ true → Settles old new settling) → (m : Moment) → takes_calls old ≡ true → Holds old m → why ≡ DeviceFault
   stops_fault {old} {new} why settling is settles m takes here = let s = subst (λ (r : Result Bool FsErr). Settles old new r) is (settles takes) in s.stands m here
@@ -228,6 +249,7 @@ module _ {N : Type 0} {nor : NorOf N} where
         back = size;
         apart = λ m takes here refused. ap (λ (n : ℕ). nat_lt 0 n) (maps m takes here).room;
         maps = λ m takes here refused lent. subst (λ (o : Option MapErr). KeepsMap old new (breaks (map_reply o))) (sym told) (maps m takes here);
+        differs = λ d e. stopped_differs why settling is closed settles d (same_call (Some refusal.why) why (Damaged d) told e);
       }
 
   -- pages are read, where nothing waits
@@ -325,9 +347,9 @@ module _ {N : Type 0} {nor : NorOf N} where
         }
 
         -- a map isn't attached, and nothing is changed
-        pub refused_attach : (wanted : State → Result ℕ FsErr) (first lent : ℕ) (refusal : MapRefusal) → length refusal.numbers.now ≡ lent → breaks (map_reply (Some refusal.why)) ≡ false → (Some refusal.why ≡ Some (Call DeviceFault) → ⊥) → new.stage ≡ mid.stage →
+        pub refused_attach : (wanted : State → Result ℕ FsErr) (first lent : ℕ) (refusal : MapRefusal) → length refusal.numbers.now ≡ lent → breaks (map_reply (Some refusal.why)) ≡ false → (Some refusal.why ≡ Some (Call DeviceFault) → ⊥) → ((d : Differ) → Some refusal.why ≡ Some (Call (Damaged d)) → ⊥) → new.stage ≡ mid.stage →
             ((m : Moment) → Holds new (settled_at m.state) → Some refusal.why ≡ attach_refusal (is_attached new) (wanted m.state)) → Attaches wanted first lent old new (Err refusal)
-        refused_attach wanted first lent refusal size fine no_fault stage answer =
+        refused_attach wanted first lent refusal size fine no_fault no_page stage answer =
             let s = settled_done in
             record {
               call = read_call (Some refusal.why) (stage ∙ s.done.0 ∙ open_is old.stage takes ∙ sym (stage_fine had (map_reply (Some refusal.why)) fine)) (λ e. absurd (no_fault e));
@@ -339,6 +361,7 @@ module _ {N : Type 0} {nor : NorOf N} where
               back = size;
               apart = λ m on here refused. ap (λ (n : ℕ). nat_lt 0 n) (keeps_on false (maps m on here)).room;
               maps = λ m on here refused lent. keeps_on (breaks (map_reply (Some refusal.why))) (maps m on here);
+              differs = λ d e. absurd (no_page d e);
             }
 
       -- the map of a file is read
@@ -359,6 +382,7 @@ module _ {N : Type 0} {nor : NorOf N} where
             back = tt;
             apart = λ m on here refused. absurd (refused refl);
             maps = λ m on here refused. absurd (refused refl);
+            differs = λ d e. absurd (some_or_none None (Call (Damaged d)) e refl);
           }
       filled_attach wanted id first lent (Err refusal) maps free stage done back none why listed missing =
           let s = settled_done in
@@ -379,4 +403,8 @@ module _ {N : Type 0} {nor : NorOf N} where
             back = back;
             apart = λ m on here refused. ap (λ (n : ℕ). nat_lt 0 n) none.1 ∙ sym free ∙ ap (λ (n : ℕ). nat_lt 0 n) (maps m on here).room;
             maps = λ m on here refused lent. absurd (never (sym lent ∙ (ap (λ (n : ℕ). nat_lt 0 n) (sym (maps m on here).room) ∙ free)));
+            differs = λ d e. absurd (⊎_elim
+                (λ (fault : (refusal.why ≡ Call DeviceFault) × Rose (nor.faults mid.nor.now) (nor.faults new.nor.now)). fault_no_page d (same_call (Some refusal.why) DeviceFault (Damaged d) (ap (λ (w : MapErr). Some w) fault.0) e))
+                (λ (gone : (refusal.why ≡ Call NotFound) × HasNoHeader new id). missing_no_page d (same_call (Some refusal.why) NotFound (Damaged d) (ap (λ (w : MapErr). Some w) gone.0) e))
+                why);
           }

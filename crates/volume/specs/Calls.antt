@@ -15,6 +15,7 @@ use Rattle.image_model.specs.Tidy.{HasReserve}
 use Rattle.image_model.specs.Collect.{chosen_block}
 use Rattle.trim_laws.specs.Trim.{Trims}
 use Rattle.block_gc.specs.RoomMade.{IsReady}
+use Rattle.call_model.specs.Memory.{IsAt}
 use Rattle.call_model.specs.Calls.{Publishes, Answers}
 use Rattle.volume.specs.declared.volume.Volume.{Volume}
 use Rattle.volume.specs.Stages.{takes_calls, has_failed}

@@ -1,11 +1,12 @@
 -- What the calls of maps do to a volume.
-use Rattle.std.specs.Prelude.{◌≡◌, ◌⊎◌, ℕ, ℤ, negsuc, ◌+◌, ◌≤◌, List, [], length, Bool, true, false, Option, Some, None, Result, Ok, Err, IfErr, nat_lt, ◌&&◌, if◌then◌else◌}
+use Rattle.std.specs.Prelude.{◌≡◌, ◌≢◌, ◌⊎◌, ℕ, ℤ, negsuc, ◌+◌, ◌≤◌, List, [], length, Bool, true, false, Option, Some, None, Result, Ok, Err, IfErr, nat_lt, ◌&&◌, if◌then◌else◌}
 use Rattle.geometry.specs.Numbers.{body}
 use Rattle.nor_core.specs.declared.state.NorState.{Ghosts as NorOf}
 use Rattle.nor_core.specs.Count.{Rose}
 use Rattle.nor_core.specs.Device.{Changes}
+use Rattle.table_model.specs.declared.error.Differ.{Differ}
 use Rattle.table_model.specs.declared.error.FsErr.{FsErr}
-use Rattle.table_model.specs.declared.error.FsErr.TheVariants.{Failed, DeviceFault, BadDescriptor, NotFound}
+use Rattle.table_model.specs.declared.error.FsErr.TheVariants.{Failed, DeviceFault, BadDescriptor, NotFound, Damaged}
 use Rattle.table_model.specs.Numbers.{number_of}
 use Rattle.table_model.specs.Table.{File, Open, State, file_of, has_id}
 use Rattle.table_model.specs.Descriptors.{open_at}
@@ -128,3 +129,5 @@ module _ {N : Type 0} {nor : NorOf N} where
     pub back : IfErr result (λ refusal. length refusal.numbers.now ≡ lent)
     pub apart : (m : Moment) → takes_calls old ≡ true → Holds old m → (why_back result ≡ None → ⊥) → is_attached new ≡ is_attached old
     pub maps : (m : Moment) → takes_calls old ≡ true → Holds old m → (why_back result ≡ None → ⊥) → is_attached old ≡ true → KeepsMap old new (breaks (map_reply (why_back result)))
+    -- of a page that reads otherwise than it was written, two tags are told that differ
+    pub differs : (d : Differ) → why_back result ≡ Some (Call (Damaged d)) → d.wanted ≢ d.found

@@ -57,7 +57,9 @@ pub returns-in_default-next_count-clause-few : goal.returns-in_default-next_coun
 returns-in_default-next_count-clause-few g c = λ tells can. tt
 
 pub returns-in_err-empty_block-clause-few : goal.returns-in_err-empty_block-clause-few
-returns-in_err-empty_block-clause-few g c = λ tells can. let is : c.from_residual.result ≡ Err c.in_err-empty_block.field-0.0 = search rules in rw is tt
+returns-in_err-empty_block-clause-few g c =
+    let is : c.from_residual.result ≡ Err c.in_err-empty_block.field-0.0 = search rules in
+    λ tells can. rw is tt
 
 pub returns-in-Err-clause-few : goal.returns-in-Err-clause-few
 returns-in-Err-clause-few g c = λ tells can. tt

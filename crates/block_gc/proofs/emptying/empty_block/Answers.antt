@@ -59,7 +59,9 @@ returns-clause-step g c =
     weaker was.step (λ tells can. turns_end _ _ c.args.block c.args.most c.loop-i.i (omega (arith, was.end, c.loop-i-test.false)) can)
 
 pub returns-in_err-empty_entry-clause-few : goal.returns-in_err-empty_entry-clause-few
-returns-in_err-empty_entry-clause-few g c = λ tells can. let is : c.from_residual.result ≡ Err c.in_err-empty_entry.field-0.0 = search rules in rw is tt
+returns-in_err-empty_entry-clause-few g c =
+    let is : c.from_residual.result ≡ Err c.in_err-empty_entry.field-0.0 = search rules in
+    λ tells can. rw is tt
 
 pub returns-clause-few : goal.returns-clause-few
 returns-clause-few g c = λ tells can. c.loop-i.invariant.few tells can

@@ -1,4 +1,5 @@
-use Rattle.std.proofs.Common.{ℕ, length}
+use Rattle.std.proofs.Common.{ℕ, length, ap, ◌∙◌}
+use Rattle.volume.specs.MapReads.{why_back}
 use Rattle.tool_core.proofs.MapSteps.{attaches_ok, attaches_err, attaches_on, attaches_fault}
 use Rattle.tool_core.proofs.Among.{unmapped_among}
 use Rattle.tool_core.proofs.mapping.attach.Goals as goal
@@ -16,4 +17,4 @@ pub returns-in-Err-clause-cause : goal.returns-in-Err-clause-cause
 returns-in-Err-clause-cause g c = λ is. attaches_fault _ 0 _ c.in-Err.refusal c.in-Err.is (c.unmapped.ensures.fault cc) c.attach_map_of.ensures
 
 pub returns-in-Err-clause-among : goal.returns-in-Err-clause-among
-returns-in-Err-clause-among g c = rw c.unmapped.ensures.ends (unmapped_among c.args.id c.in-Err.refusal.why)
+returns-in-Err-clause-among g c = rw c.unmapped.ensures.ends (unmapped_among c.args.id c.in-Err.refusal.why (λ d is. c.attach_map_of.ensures.differs d (ap why_back c.in-Err.is ∙ is)))

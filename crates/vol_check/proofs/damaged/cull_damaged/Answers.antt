@@ -1,6 +1,6 @@
 use Rattle.std.proofs.Common.{rules, ℕ, Option, Some, arith, subst}
 use Rattle.file_find.specs.Marks.{NextHead}
-use Rattle.vol_check.proofs.Heading.{heading_start, heading_next, heading_end, heading_goes}
+use Rattle.vol_check.proofs.Heading.{heading_marks, heading_start, heading_next, heading_end, heading_goes}
 use Rattle.vol_check.proofs.Passing.{from_bool_is}
 use Rattle.vol_check.proofs.Working.{look_works, look_stops, works_as, works_end, works_stop, works_read, read_stops}
 use Rattle.vol_check.proofs.damaged.cull_damaged.Given.{Over}
@@ -14,6 +14,14 @@ pub ids-init : goal.ids-init
 ids-init g c =
     let seen = c.in_ok-survey.ensures in
     record { few = omega arith; most = omega arith; work = look_works seen.looks (λ tells magics single. heading_start _ _ _ single (seen.told tells)) }
+
+pub next_marked-requires-clause-marked : goal.next_marked-requires-clause-marked
+next_marked-requires-clause-marked g c = heading_marks c.ids.invariant.work c.requires.magics c.requires.single
+
+pub cull_head-requires-clause-marked : goal.cull_head-requires-clause-marked
+cull_head-requires-clause-marked g c = λ tells.
+    let seen = c.in_ok-id.ensures.looks in
+    rw (seen.same.geometry, seen.reads.bytes) (heading_marks c.ids.invariant.work c.requires.magics c.requires.single (seen.reads.told_before tells))
 
 -- the next id with a header page
 next_head : (g : Over) (c : After-cull_head g) → g.N.NorState.tells c.args.v.now.nor.now → NextHead c.args.v.now.geometry (g.N.NorState.bytes c.next_marked.new.v.nor.now) c.ids.at (Some (c.in-Some.id, c.in-Some.header))

@@ -1,9 +1,9 @@
-use Rattle.std.proofs.Common.{refl, Ok, Err}
+use Rattle.std.proofs.Common.{◌≡◌, refl, rules, Ok, Err}
 use Rattle.vol_check.specs.declared.report.CheckErr.TheVariants.{DeviceFault}
 use Rattle.room_laws.proofs.Sorted.{tidy_tells_free}
 use Rattle.flash_view.specs.Steps.{Stepped}
 use Rattle.flash_view.proofs.Looking.{looks_none}
-use Rattle.flash_view.proofs.Stepped.{looked, stepped_then}
+use Rattle.flash_view.proofs.Stepped.{looked, passes, stepped_then}
 use Rattle.volume.specs.Checking.{check_stopped}
 use Rattle.volume.proofs.Clearing.{counting}
 use Rattle.volume.proofs.Finishing.{divides_none, divided_cut, divided_counted}
@@ -13,6 +13,11 @@ pub returns-then-not-shares-clause-step : goal.returns-then-not-shares-clause-st
 returns-then-not-shares-clause-step g c =
     let none = c.if-not-shares.true in
     looked (looks_none c.args.v.now) (λ e. absurd (cc)) tt (λ tells judged. divides_none _ _ c.args.shares c.args.free none judged)
+
+pub returns-in_err-part-clause-step : goal.returns-in_err-part-clause-step
+returns-in_err-part-clause-step g c =
+    let is : c.from_residual.result ≡ Err c.in_err-part.field-0.0 = search rules in
+    passes c.in_err-part.ensures is (λ tells judged. record { needs = (judged.neat, judged.fitting.0); cut = λ c cut. cut })
 
 pub returns-in-Err-clause-step : goal.returns-in-Err-clause-step
 returns-in-Err-clause-step g c =

@@ -1,4 +1,3 @@
-use Rattle.std.proofs.Common.{◌≡◌}
 use Rattle.geometry.specs.Numbers.{per_block}
 use Rattle.geometry.proofs.Bounds.{block_below}
 use Rattle.flash_view.proofs.view.View.live_by.Goals as goal

@@ -15,7 +15,7 @@ returns-then-is_attached g c =
     let mid = c.settled.new.self in
     let on : is_attached mid ≡ true = sym c.is_attached.ensures ∙ c.if-is_attached.true in
     refused_attach (reads_none mid.nor.now) (same_none mid) refl refl c.in-Ok.had c.settled.result c.in-Ok.is c.settled.ensures.closed c.settled.ensures.settles c.settled.ensures.still refl refl (λ m takes here. rw c.in-Ok.is at (c.settled.ensures.map m takes here))
-    (id_in c.args.id) c.args.first (length c.args.numbers.now) (record { why = MapBusy; numbers = c.args.numbers }) refl refl (λ e. cc) refl (λ m here. ap (λ (b : Bool). attach_refusal b (id_in c.args.id m.state)) (sym on))
+    (id_in c.args.id) c.args.first (length c.args.numbers.now) (record { why = MapBusy; numbers = c.args.numbers }) refl refl (λ e. cc) (λ d e. cc) refl (λ m here. ap (λ (b : Bool). attach_refusal b (id_in c.args.id m.state)) (sym on))
 
 pub returns-else-is_attached : goal.returns-else-is_attached
 returns-else-is_attached g c =
