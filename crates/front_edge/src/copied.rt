@@ -1,5 +1,5 @@
 //! A copy of a chip in memory.
-ghost use Rattle.std.specs.Prelude.{◌≡◌, IfOk};
+ghost use Rattle.std.specs.Prelude.{◌≡◌, length, IfOk};
 ghost use Rattle.nor_memory.specs.contracts.mem_chip.MemChipChipState.TheImpl.{ghosts as mem};
 
 use chip_row::Chip;
@@ -36,17 +36,30 @@ impl From<Failed> for CopyErr {
     }
 }
 
-/// A copy of what a chip holds, in erase units of `unit` bytes. The chip is only read, and what is written to the copy stays there.
-pub fn copy_of<C: Chip>(alloc: Global, chip: &mut C, unit: u32) -> Result<MemChip, CopyErr>
-    ensures size { IfOk result (λ copy. mem.size copy ≡ C.size chip.old) }
-    ensures unit { IfOk result (λ copy. mem.unit copy ≡ unit) }
+// All bytes that a chip holds.
+fn bytes_of<C: Chip>(alloc: Global, chip: &mut C) -> Result<Vec<u8>, CopyErr>
+    ensures size { IfOk result (λ bytes. length bytes.items ≡ C.size chip.old) }
+    ensures told { C.tells chip.old → IfOk result (λ bytes. bytes.items ≡ C.bytes chip.old) }
 {
     let size = chip.size();
-    if unit == 0 || size == 0 || size % unit != 0 {
+    if size == 0 {
         return Err(CopyErr::Units);
     }
     let mut bytes = vec![in alloc; 0xFFu8; size as usize]?;
     chip.read(0, &mut bytes)?;
+    Ok(bytes)
+}
+
+/// A copy of what a chip holds, in erase units of `unit` bytes. The chip is only read, and what is written to the copy stays there.
+pub fn copy_of<C: Chip>(alloc: Global, chip: &mut C, unit: u32) -> Result<MemChip, CopyErr>
+    ensures size { IfOk result (λ copy. mem.size copy ≡ C.size chip.old) }
+    ensures unit { IfOk result (λ copy. mem.unit copy ≡ unit) }
+    ensures told { C.tells chip.old → IfOk result (λ copy. mem.bytes copy ≡ C.bytes chip.old) }
+{
+    let bytes = bytes_of(alloc, chip)?;
+    if unit == 0 || bytes.len() % unit as usize != 0 {
+        return Err(CopyErr::Units);
+    }
     Ok(MemChip::new(alloc, bytes, unit)?)
 }
 

@@ -13,7 +13,7 @@ use front_edge::HostChip;
 use front_words::{SCRATCH, can_be_put, make_working, place};
 use host_edge::{Access, StdFolder, Trouble};
 use std::alloc::{AllocError, Global};
-use std::{fs, str};
+use std::{fs, io, str};
 use table_model::FsErr;
 use tree_paths::decoded;
 
@@ -162,18 +162,24 @@ fn target_of(alloc: Global, meant: &Meant<'_>, path: &str) -> Result<Vec<u8>, Al
     Ok(name)
 }
 
+// Says why a host file can't be read, and answers the status.
+fn no_file(rt: &HostRuntime, path: &str, why: io::Error) -> Stop {
+    let status = tell(rt, "! folder fault\n", FOLDER_FAULT);
+    fail(rt, path, &Trouble::Get(why), status)
+}
+
 // The bytes of a host file that is to be put. One that is longer than the volume is refused before it is read.
 fn read_file(rt: &HostRuntime, meant: &Meant<'_>, path: &str) -> Result<Vec<u8>, Stop> {
     let told = match fs::metadata(rt, path) {
         Ok(told) => told,
-        Err(why) => return Err(fail(rt, path, &Trouble::Get(why), FOLDER_FAULT)),
+        Err(why) => return Err(no_file(rt, path, why)),
     };
     if told.is_file() && told.len() > u64::from(meant.size) {
         return Err(refuse(rt, path, FsErr::Full));
     }
     match fs::read(rt, path) {
         Ok(bytes) => Ok(bytes),
-        Err(why) => Err(fail(rt, path, &Trouble::Get(why), FOLDER_FAULT)),
+        Err(why) => Err(no_file(rt, path, why)),
     }
 }
 
