@@ -152,12 +152,13 @@ class Browser:
         for kind in ("dragEnter", "dragOver", "drop"):
             self.ask("Input.dispatchDragEvent", type=kind, x=x, y=y, data=data)
 
-    def wait_for_workers(self, count, seconds=30):
-        """Waits until there are so many workers: one that is ended is there for a while."""
+    def workers(self, wanted, seconds=30):
+        """How many workers there are, once they are as many as wanted or the time is over: one that is ended is there for a while."""
         until = time.monotonic() + seconds
-        while (found := sum(it["type"] == "worker" for it in self.ask("Target.getTargets")["targetInfos"])) != count:
-            if time.monotonic() > until:
-                raise TimeoutError(f"{found} workers, wanted {count}")
+        while True:
+            found = sum(it["type"] == "worker" for it in self.ask("Target.getTargets")["targetInfos"])
+            if found == wanted or time.monotonic() > until:
+                return found
             time.sleep(0.05)
 
     def downloaded(self, seconds=120):
