@@ -67,12 +67,7 @@ fn clashes(files: &[Known], name: &[u8]) -> bool {
 }
 
 // The path of a file that is made below a folder, aside or not.
-fn new_path_in(
-    alloc: Global,
-    top: &str,
-    name: &[u8],
-    is_aside: bool,
-) -> Result<String, AllocError>
+fn new_path_in(alloc: Global, top: &str, name: &[u8], is_aside: bool) -> Result<String, AllocError>
     ensures { IfOk result (λ path. IsBelow top.now (string_bytes path)) }
 {
     let path = path_of(alloc, name, is_aside)?;
