@@ -498,6 +498,22 @@ def a_look_is_stopped(page, program):
     compare_list(page, program, small)
 
 
+def many_files(page, program):
+    """A thousand rows are shown, and more of them as they are asked for."""
+    image, pages = Image(200), (block * 16 + i for block in range(200) for i in range(1, 16))
+    for ident in range(1, 2501):
+        image.put(next(pages), 0x8000 | ident, word(0x8000 | ident) + word(0) + b"\xf8" + b"\xff" * 7 + b"\x01" + (b"f%d" % ident).ljust(32, b"\0"))
+    path = program.file(bytes(image.bytes))
+    page.open(path)
+    _, lines = program.give("list", "256", "4096", "200", "0", "len", path)
+    same("the number of files", len(lines), 2500)
+    for shown in (1000, 2000):
+        same("the first rows", page.browser.value(ROWS), lines[:shown])
+        page.click("more")
+    compare_list(page, program, path)
+    same("whether more is offered", page.browser.value("document.getElementById('more').hidden"), True)
+
+
 def many_candidates(page, program):
     """Rows of three blocks without the magic of a length, each of several sizes of page."""
     image = bytearray(b"\xff" * (60 * 16384))
@@ -537,7 +553,7 @@ def a_file_that_is_too_large(page, program):
 
 CASES = [a_made_image, an_image_as_spiffsgen_lays_it_out, names_and_bytes_of_all_sorts, a_file_of_a_hostile_name, random_bytes, a_torn_image,
          an_image_that_is_cut_off, a_wrong_meta, a_dump_with_two_volumes, many_pages, a_dropped_file, memory_is_given_back, a_look_is_stopped,
-         many_candidates, what_breaks_is_told, a_file_that_is_too_large]
+         many_files, many_candidates, what_breaks_is_told, a_file_that_is_too_large]
 
 # How a page is broken: what, in which part, the old text, the new text, and the case that has to fail.
 WRONG = [

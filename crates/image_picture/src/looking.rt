@@ -133,12 +133,7 @@ fn is_erased(bytes: &[u8]) -> bool
 
 // Whether a page is erased.
 #[tactic(auto, unfolding(image_model::specs::Places::page_of))]
-fn blank_on<N: Nor>(
-    nor: &mut N,
-    g: &Geometry,
-    p: u32,
-    work: &mut [u8],
-) -> Result<bool, Failed>
+fn blank_on<N: Nor>(nor: &mut N, g: &Geometry, p: u32, work: &mut [u8]) -> Result<bool, Failed>
     requires volume { g.now.blocks * g.now.block ≤ N.size nor.old }
     requires page { p < page_count g.now }
     requires work { 4096 ≤ length work.old }
@@ -170,13 +165,7 @@ fn is_live(has: bool, entry: u16, head: &PageHeader) -> bool
 
 // What a page is whose entry is neither free nor deleted: live, or none of the kinds.
 #[tactic(auto, using(crate::proofs::Told::sign_live, crate::proofs::Told::sign_dead))]
-fn live_on<N: Nor>(
-    nor: &mut N,
-    g: &Geometry,
-    p: u32,
-    entry: u16,
-    has: bool,
-) -> Result<Sign, Failed>
+fn live_on<N: Nor>(nor: &mut N, g: &Geometry, p: u32, entry: u16, has: bool) -> Result<Sign, Failed>
     requires volume { g.now.blocks * g.now.block ≤ N.size nor.old }
     requires page { p < page_count g.now }
     requires behind { the_entry_page g.now p ≡ true }

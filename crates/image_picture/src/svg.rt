@@ -9,7 +9,7 @@ ghost use Rattle.image_picture.specs.Picture.{top_of, legend_of};
 use crate::looking::block_of;
 use crate::pieces::put_label;
 use crate::signs::{Sign, hue, word};
-use call_script::{put, put_count};
+use call_script::{put, put_count, put_number};
 use geometry::Geometry;
 
 // Where the row of a block begins, from the top.
@@ -127,11 +127,29 @@ pub(crate) fn put_top(into: &mut [u8], g: &Geometry) -> usize
     ensures bound { result ≤ 4096 }
 {
     let wide = 12 * g.per_block() + 400;
-    let at = put_count(into, 0, b"<svg xmlns='http://www.w3.org/2000/svg' viewBox='0 0 ", wide);
-    let at = put_count(into, at, b" ", bottom(g, 60));
-    let at = put(into, at, b"' font-family='monospace' font-size='10' xml:space='preserve'>\n");
-    let at = put(into, at, b"<style>.lookup{fill:#777}.free{fill:#fff;stroke:#ccc}.deleted{fill:#ccc}.neither{fill:#000}");
-    put(into, at, b".header{stroke:#000;stroke-width:2}.index{stroke:#000}</style>\n<text y='9'>block erase   pages</text>\n")
+    let at = put_count(
+        into,
+        0,
+        b"<svg xmlns='http://www.w3.org/2000/svg' viewBox='0 0 ",
+        wide,
+    );
+    let at = put(into, at, b" ");
+    let at = put_number(into, at, bottom(g, 60));
+    let at = put(
+        into,
+        at,
+        b"' font-family='monospace' font-size='10' xml:space='preserve'>\n",
+    );
+    let at = put(
+        into,
+        at,
+        b"<style>.lookup{fill:#777}.free{fill:#fff;stroke:#ccc}.deleted{fill:#ccc}.neither{fill:#000}",
+    );
+    put(
+        into,
+        at,
+        b".header{stroke:#000;stroke-width:2}.index{stroke:#000}</style>\n<text y='9'>block erase   pages</text>\n",
+    )
 }
 
 /// Writes what stands below them.
@@ -142,7 +160,16 @@ pub(crate) fn put_legend(into: &mut [u8], g: &Geometry) -> usize
     ensures bound { result ≤ 4096 }
 {
     let at = put_count(into, 0, b"<text y='", bottom(g, 16));
-    let at = put(into, at, b"'>grey: lookup, pale: deleted, white: free, black: neither, ! no magic</text>\n");
-    let at = put_count(into, at, b"<text y='", bottom(g, 30));
-    put(into, at, b"'>a colour: a file; thick border: header, thin: further index</text>\n</svg>\n")
+    let at = put(
+        into,
+        at,
+        b"'>grey: lookup, pale: deleted, white: free, black: neither, ! no magic</text>\n",
+    );
+    let at = put(into, at, b"<text y='");
+    let at = put_number(into, at, bottom(g, 30));
+    put(
+        into,
+        at,
+        b"'>a colour: a file; thick border: header, thin: further index</text>\n</svg>\n",
+    )
 }

@@ -85,6 +85,18 @@ spiffs: a SPIFFS 0.3.7 flash volume in a chip file, or in several end to end
   spiffs mv IMAGE OLD NEW
       gives a file another name
       spiffs mv image /index.html /old.html
+  spiffs df IMAGE
+      tells how full a volume is, and the bytes of the largest new file that it
+      still takes; writes nothing
+      spiffs df image
+  spiffs size FOLDER
+      tells how many blocks a volume needs at least for the files of a folder
+      and of those below it, and how many bytes these are
+      spiffs size files --page 512
+  spiffs picture IMAGE [--svg]
+      draws a volume, a line a block and a sign a page, or as SVG; writes
+      nothing
+      spiffs picture image --svg > image.svg
   spiffs --help | --version
 
 From `ls` on, options stand anywhere in the line, each at most once, and what is
@@ -99,6 +111,7 @@ left out is found in the image. `pack` and `gen` take those of ESP-IDF.
   --for MAKER       numbers of esp-idf, arduino-esp32 or mkspiffs
   --dry-run         reads alone: changes are tried in memory
   --repair          of `fsck`: mends the file
+  --svg             of `picture`: a drawing for a browser
   --force           goes on where another META reads more whole files
 
 N is a number below 2^32: digits, the same with K or M behind, or `0x` and
@@ -174,8 +187,8 @@ two blocks are free, -10001 the volume is full.
 Promises are comments of a script, which `rehearse` judges.
 
   #! first NAME NAME ..
-                up to a line `#! end` the first of these that is there has the
-                bytes that it has here, or those that it has at that line
+                up to a line `#! end`, one who reads the first of these that is
+                there finds what he finds here, or at that line
   #! some NAME NAME ..
                 one of these is there
   #! kept NAME  this one is there with the bytes that it has here

@@ -4,6 +4,7 @@
 const MOST_BYTES = 256 * 1024 * 1024;
 const MOST_SHOWN = 65536;
 const MOST_FOUND = 100;
+const MORE_ROWS = 1000;
 const KINDS = ["lookup", "free", "deleted", "header", "further index", "data", "neither"];
 const [LOOKUP, FREE, DELETED, HEADER, INDEX, DATA, NEITHER] = KINDS.keys();
 const PLAIN_COLOURS = { [LOOKUP]: "#8a8a8a", [FREE]: "#ffffff", [DELETED]: "#dadada", [NEITHER]: "#202020" };
@@ -183,17 +184,28 @@ function parsed(lines) {
 
 function showFiles({ files, damaged, closing }) {
   el("closing").textContent = closing;
-  el("files").replaceChildren(...files.map(file => {
-    const row = document.createElement("tr");
-    for (const part of ["id", "type", "bytes", "name"]) {
-      const cell = row.insertCell();
-      cell.className = part === "name" ? "name" : "number";
-      cell.textContent = file[part];
-    }
-    row.insertCell().append(button("open", () => view(file)), " ", button("save", () => saveFile(file)));
-    return row;
-  }));
+  el("files").replaceChildren();
+  showMore(files);
   el("damaged").replaceChildren(...damaged.map(printed));
+}
+
+/** Shows the next rows of the files, and offers to show more. */
+function showMore(files) {
+  const next = files.slice(0, MORE_ROWS);
+  const left = files.slice(MORE_ROWS);
+  el("files").append(...next.map(rowOf));
+  Object.assign(el("more"), { hidden: left.length === 0, textContent: `show more, of ${left.length}`, onclick: () => showMore(left) });
+}
+
+function rowOf(file) {
+  const row = document.createElement("tr");
+  for (const part of ["id", "type", "bytes", "name"]) {
+    const cell = row.insertCell();
+    cell.className = part === "name" ? "name" : "number";
+    cell.textContent = file[part];
+  }
+  row.insertCell().append(button("open", () => view(file)), " ", button("save", () => saveFile(file)));
+  return row;
 }
 
 /** What to know before a check, if files are damaged by these numbers. */
