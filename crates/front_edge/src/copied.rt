@@ -1,5 +1,5 @@
 //! A copy of a chip in memory.
-ghost use Rattle.std.specs.Prelude.{◌≡◌, length, IfOk};
+ghost use Rattle.std.specs.Prelude.{◌≡◌, ◌<◌, ◌^◌, length, IfOk};
 ghost use Rattle.nor_memory.specs.contracts.mem_chip.MemChipChipState.TheImpl.{ghosts as mem};
 
 use chip_row::Chip;
@@ -39,6 +39,7 @@ impl From<Failed> for CopyErr {
 // All bytes that a chip holds.
 fn bytes_of<C: Chip>(alloc: Global, chip: &mut C) -> Result<Vec<u8>, CopyErr>
     ensures size { IfOk result (λ bytes. length bytes.items ≡ C.size chip.old) }
+    ensures few { IfOk result (λ bytes. length bytes.items < 2 ^ 32) }
     ensures told { C.tells chip.old → IfOk result (λ bytes. bytes.items ≡ C.bytes chip.old) }
 {
     let size = chip.size();

@@ -1,4 +1,6 @@
 //! What stands in a tree of folders of the host.
+ghost use Rattle.std.specs.Prelude.{◌≡◌, ◌∷◌, ◌++◌, string_bytes, IfOk};
+
 use host_edge::PassedOver;
 use std::alloc::{AllocError, Global};
 use std::fs::{Files, Metadata};
@@ -47,11 +49,21 @@ fn below(alloc: Global, folder: &str, name: &str) -> Result<String, AllocError> 
 }
 
 /// The path that the host opens of what has a path below the top.
-pub(crate) fn full_path(alloc: Global, top: &str, path: &str) -> Result<String, AllocError> {
-    if path.is_empty() {
+pub(crate) fn below_top(alloc: Global, top: &str, path: &str) -> Result<String, AllocError>
+    ensures { IfOk result (λ full. string_bytes full ≡ top.now ++ 47 ∷ path.now) }
+{
+    let mut full = String::from_str(alloc, top)?;
+    full.push('/')?;
+    full.push_str(path)?;
+    Ok(full)
+}
+
+// The path that the host opens of a folder: that of the top, where it has no path below it.
+fn folder_path(alloc: Global, top: &str, folder: &str) -> Result<String, AllocError> {
+    if folder.is_empty() {
         String::from_str(alloc, top)
     } else {
-        format!(in alloc; "{top}/{path}")
+        below_top(alloc, top, folder)
     }
 }
 
@@ -72,7 +84,7 @@ fn note(
         folders.push(path)?;
         return Ok(());
     }
-    let full = full_path(alloc, top, path.as_str())?;
+    let full = below_top(alloc, top, path.as_str())?;
     if told.is_file() {
         let name = name_of(alloc, path.as_str())?;
         listed.files.push(Known { name, path: full })?;
@@ -94,7 +106,7 @@ fn list_one<R: Files>(
     folders: &mut Vec<String>,
     listed: &mut Listed,
 ) -> io::Result<()> {
-    let full = full_path(alloc, top, folder)?;
+    let full = folder_path(alloc, top, folder)?;
     for entry in fs::read_dir(&(rt, alloc), full.as_str())? {
         let entry = entry?;
         // (a link is told as one, and never gone into)

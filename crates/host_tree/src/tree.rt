@@ -1,5 +1,8 @@
 //! A tree shown as one flat folder.
-use crate::listing::{Known, Listed, full_path, list};
+ghost use Rattle.std.specs.Prelude.{string_bytes, IfOk};
+ghost use Rattle.host_tree.specs.Below.{IsBelow};
+
+use crate::listing::{Known, Listed, below_top, list};
 use crate::making::{make_folders, want_plain};
 use std::alloc::{AllocError, Allocator, Global};
 use std::cell::RefCell;
@@ -63,6 +66,14 @@ fn clashes(files: &[Known], name: &[u8]) -> bool {
     false
 }
 
+// The path of a file that is made below a folder, aside or not.
+fn new_path_in(alloc: Global, top: &str, name: &[u8], is_aside: bool) -> Result<String, AllocError>
+    ensures { IfOk result (λ path. IsBelow top.now (string_bytes path)) }
+{
+    let path = path_of(alloc, name, is_aside)?;
+    below_top(alloc, top, path.as_str())
+}
+
 impl Read for Names {
     fn read(&mut self, into: &mut [u8]) -> io::Result<usize> {
         let Some(name) = self.left.pop() else {
@@ -80,6 +91,9 @@ impl Read for Names {
 }
 
 impl<R: Files + Drop> TreeFiles<R> {
+    ghost use Rattle.std.specs.Prelude.{string_bytes, IfOk};
+    ghost use Rattle.host_tree.specs.Below.{IsBelow};
+
     /// The tree below a folder. Nothing is read yet. Where `makes` is set, a folder that isn't there counts as an empty one, and is made with
     /// the first file.
     pub fn new(rt: R, alloc: Global, top: &str, makes: bool) -> Result<TreeFiles<R>, AllocError> {
@@ -142,14 +156,15 @@ impl<R: Files + Drop> TreeFiles<R> {
         Ok(entries)
     }
 
-    // The path of a file that is made with that name.
-    fn new_path(&self, name: &[u8]) -> io::Result<String> {
+    // The path of a file that is made with that name. It goes on behind the top by parts that lead down alone.
+    fn new_path(&self, name: &[u8]) -> io::Result<String>
+        ensures { IfOk result (λ path. IsBelow (string_bytes self.now.top) (string_bytes path)) }
+    {
         let Ok(listed) = self.listed.try_borrow() else {
             return Err(is_lent());
         };
         let is_aside = clashes(listed.files.as_slice(), name);
-        let path = path_of(self.alloc, name, is_aside)?;
-        Ok(full_path(self.alloc, self.top.as_str(), path.as_str())?)
+        Ok(new_path_in(self.alloc, self.top.as_str(), name, is_aside)?)
     }
 
     // Notes a file that was made.

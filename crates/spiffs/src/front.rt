@@ -9,6 +9,8 @@ use crate::store::{put, remove, rename};
 use crate::trees::{pack, unpack};
 use crate::usage::wrong_word;
 use crate::{Refusal, USAGE, take_memory, tell};
+use chip_row::ChipRow;
+use front_edge::HostChip;
 use front_words::{Asked, Refusal as LineRefusal, Word, read_line};
 use host_edge::{Access, StdFolder};
 
@@ -27,43 +29,33 @@ fn refuse_line(rt: &HostRuntime, words: &[String], why: LineRefusal) -> u8 {
     status
 }
 
+// Gives the command that a line means, without a script or a folder.
+fn give_alone<C: HostChip>(
+    rt: &HostRuntime,
+    meant: &Meant<'_>,
+    row: ChipRow<C>,
+    guard: Guard,
+) -> Result<u8, Stop> {
+    let mut memory = take_memory(rt, &meant.top)?;
+    let mut folder = StdFolder::unlisted(rt, rt.alloc());
+    let told = give_on(rt, meant, row, b"", &mut folder, &mut memory, guard)?;
+    Ok(end_told(rt, meant, &told))
+}
+
 // Lists the files of the volume. Nothing is written.
 fn list(rt: &HostRuntime, meant: &Meant<'_>) -> Result<u8, Stop> {
-    let mut memory = take_memory(rt, &meant.top)?;
     let row = row_of(rt, meant, chip_file(rt, meant, Access::Read))?;
-    let mut folder = StdFolder::unlisted(rt, rt.alloc());
-    let told = give_on(rt, meant, row, b"", &mut folder, &mut memory, Guard::Open)?;
-    Ok(end_told(rt, meant, &told))
+    give_alone(rt, meant, row, Guard::Open)
 }
 
 // Checks the volume: the file itself if it is to be mended, else a copy in memory.
 fn check(rt: &HostRuntime, meant: &Meant<'_>) -> Result<u8, Stop> {
-    let mut memory = take_memory(rt, &meant.top)?;
-    let mut folder = StdFolder::unlisted(rt, rt.alloc());
     if meant.asked.repairs && !meant.asked.is_dry {
         let row = row_of(rt, meant, chip_file(rt, meant, Access::Write))?;
-        let told = give_on(
-            rt,
-            meant,
-            row,
-            b"",
-            &mut folder,
-            &mut memory,
-            Guard::Removes,
-        )?;
-        return Ok(end_told(rt, meant, &told));
+        return give_alone(rt, meant, row, Guard::Removes);
     }
     let row = row_of(rt, meant, chip_copy(rt, meant)?)?;
-    let told = give_on(
-        rt,
-        meant,
-        row,
-        b"",
-        &mut folder,
-        &mut memory,
-        Guard::Foretells,
-    )?;
-    Ok(end_told(rt, meant, &told))
+    give_alone(rt, meant, row, Guard::Foretells)
 }
 
 // Does what a line asks.
