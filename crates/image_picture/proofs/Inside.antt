@@ -1,9 +1,8 @@
 -- What is read lies in the volume, and is what the definitions speak of.
-use Rattle.std.proofs.Common.{◌≡◌, ℕ, ◌+◌, ◌-◌, ◌*◌, ◌/◌, ◌%◌, ◌<◌, ◌≤◌, List, length, take, drop, slice_range, get_or, get_or-take, get_or-drop, refl, sym, ap, add-zero, ◌∙◌, arith, ⊎_elim}
-use Rattle.std.proofs.Math.Nat.{mul-le-mul_right, div-add-mod}
-use Rattle.std.proofs.lemmas.Bool.{cases_lt}
+use Rattle.std.proofs.Common.{◌≡◌, ℕ, ◌+◌, ◌-◌, ◌*◌, ◌<◌, ◌≤◌, List, drop, slice_range, get_or, get_or-take, get_or-drop, refl, sym, ap, add-zero, ◌∙◌, arith}
+use Rattle.std.proofs.Math.Nat.{mul-le-mul_right}
 use Rattle.geometry.specs.declared.geometry.Geometry.{Geometry}
-use Rattle.geometry.specs.Numbers.{per_block, lookups, slots, page_count}
+use Rattle.geometry.specs.Numbers.{per_block, lookups, slots}
 use Rattle.geometry.proofs.Bounds.{block_pages, some_entries, block_inside}
 use Rattle.nor_core.specs.Flash.{word_at}
 use Rattle.image_model.specs.Places.{page_of}

@@ -1,6 +1,6 @@
 -- What a page is, by what was read of it.
-use Rattle.std.proofs.Common.{◌≡◌, ◌≢◌, ℕ, Bool, true, false, not, ◌==◌, ◌&&◌, ◌||◌, ◌%◌, ◌-◌, if◌then◌else◌, List, Option, Some, None, refl, sym, ap, ◌∙◌, subst, arith, ⊎_elim}
-use Rattle.std.proofs.lemmas.Bool.{cases_Bool, and_parts, and_from, eq-eqb, ne_eqb, eqb-true}
+use Rattle.std.proofs.Common.{◌≡◌, ◌≢◌, ℕ, Bool, true, false, not, ◌==◌, ◌&&◌, ◌||◌, ◌%◌, ◌-◌, if◌then◌else◌, List, refl, sym, ap, ◌∙◌, ⊎_elim}
+use Rattle.std.proofs.lemmas.Bool.{cases_Bool, and_parts, eq-eqb, ne_eqb, eqb-true}
 use Rattle.geometry.specs.declared.geometry.Geometry.{Geometry}
 use Rattle.image_model.specs.Places.{is_entry_page, entry_of, page_of, block_of, has_magic, slot_of}
 use Rattle.image_model.specs.Headers.{obj_id, span_of, names_index, is_flag_set, is_finished}
@@ -8,7 +8,6 @@ use Rattle.image_model.specs.Live.{is_live, live_at}
 use Rattle.image_model.specs.Tidy.{is_erased}
 use Rattle.page_layout.specs.declared.header.PageHeader.{PageHeader}
 use Rattle.page_layout.specs.Layout.{header_at, is_finished as tells_finished}
-use Rattle.image_picture.specs.declared.signs.Sign.{Sign}
 use Rattle.image_picture.specs.declared.signs.Sign.TheVariants.{Lookup, Free, Deleted, Live, Neither}
 use Rattle.image_picture.specs.Signs.{sign_at, sign_of_live}
 use Rattle.image_picture.specs.declared.style.Style.{Style}

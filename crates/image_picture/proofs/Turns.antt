@@ -1,5 +1,5 @@
 -- Texts of numbers, said one after the other. What a turn says is given by `now`, which says the same as `text`.
-use Rattle.std.proofs.Common.{◌≡◌, ℕ, ◌+◌, ◌-◌, ◌<◌, ◌≤◌, List, [], ◌++◌, sym, ap, ◌∙◌, arith}
+use Rattle.std.proofs.Common.{◌≡◌, ℕ, ◌+◌, ◌-◌, ◌<◌, ◌≤◌, List, sym, arith}
 use Rattle.std.specs.List.{flat_map, range_with_len}
 use Rattle.nor_core.specs.declared.state.NorState.{Ghosts as NorOf}
 use Rattle.image_picture.specs.Drawing.{Drawn, Stopped}

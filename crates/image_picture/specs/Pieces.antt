@@ -1,7 +1,6 @@
 -- The pieces that a picture is made of.
 use Rattle.std.specs.Prelude.{ℕ, ◌+◌, ◌*◌, ◌/◌, ◌%◌, List, [], ◌∷◌, ◌++◌, Bool, true, false, nat_lt, if◌then◌else◌, codes, decimal}
 use Rattle.geometry.specs.declared.geometry.Geometry.{Geometry}
-use Rattle.geometry.specs.Numbers.{per_block}
 use Rattle.image_model.specs.Places.{block_of, place_of}
 use Rattle.image_picture.specs.declared.signs.Sign.{Sign}
 use Rattle.image_picture.specs.declared.signs.Sign.TheVariants.{Lookup, Free, Deleted, Live, Neither}

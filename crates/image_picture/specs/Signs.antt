@@ -1,5 +1,5 @@
 -- What each page of an image is.
-use Rattle.std.specs.Prelude.{ℕ, ◌*◌, ◌%◌, List, Bool, not, ◌==◌, Option, Some, None, if◌then◌else◌, codes}
+use Rattle.std.specs.Prelude.{ℕ, ◌*◌, ◌%◌, List, not, ◌==◌, Option, Some, None, if◌then◌else◌, codes}
 use Rattle.geometry.specs.declared.geometry.Geometry.{Geometry}
 use Rattle.image_model.specs.Places.{is_entry_page, entry_of}
 use Rattle.image_model.specs.Live.{live_at}

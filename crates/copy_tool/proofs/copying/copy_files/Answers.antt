@@ -28,18 +28,18 @@ returns-in-Err-clause-kept g c = λ tells ending is. begin_kept c.in-Err.ending 
 
 pub returns-in-Ok-clause-changes : goal.returns-in-Ok-clause-changes
 returns-in-Ok-clause-changes g c =
-    let h = c.begin.new.to.geometry in
+    let h = c.begin.new.volume.geometry in
     let old = c.args.to.now in
-    let mid = c.begin.new.to in
+    let mid = c.begin.new.volume in
     let b = c.in_default.ensures in
     copy_leaves h (length old.slots.now) mid c.copy_all.new.to c.begin.ensures.same.geometry (omega (arith, c.requires.slots)) (λ tells. (tells, refl)) c.begin.ensures.changes b.begun
     (λ tells. begun_rests old.geometry old mid c.begin.ensures.same.geometry b.taken b.closed c.begin.ensures.changes tells (b.begun tells)) c.copy_all.ensures.cuts
 
 pub returns-in-Err-copy_all-clause-changes : goal.returns-in-Err-copy_all-clause-changes
 returns-in-Err-copy_all-clause-changes g c =
-    let h = c.begin.new.to.geometry in
+    let h = c.begin.new.volume.geometry in
     let old = c.args.to.now in
-    let mid = c.begin.new.to in
+    let mid = c.begin.new.volume in
     let b = c.in_default.ensures in
     copy_leaves h (length old.slots.now) mid c.copy_all.new.to c.begin.ensures.same.geometry (omega (arith, c.requires.slots)) (λ tells. (tells, refl)) c.begin.ensures.changes b.begun
     (λ tells. begun_rests old.geometry old mid c.begin.ensures.same.geometry b.taken b.closed c.begin.ensures.changes tells (b.begun tells)) c.copy_all.ensures.cuts
@@ -47,7 +47,7 @@ returns-in-Err-copy_all-clause-changes g c =
 pub returns-in-Ok-clause-copies : goal.returns-in-Ok-clause-copies
 returns-in-Ok-clause-copies g c = λ source_tells tells.
     let old = c.args.to.now in
-    let mid = c.begin.new.to in
+    let mid = c.begin.new.volume in
     let b = c.in_default.ensures in
     let source = table_of c.args.from.now.geometry (g.N.NorState.bytes c.args.from.now.nor.now) in
     let first = table_of old.geometry (g.B.NorState.bytes old.nor.now) in
@@ -59,7 +59,7 @@ returns-in-Ok-clause-copies g c = λ source_tells tells.
 pub returns-in-Err-copy_all-clause-copies : goal.returns-in-Err-copy_all-clause-copies
 returns-in-Err-copy_all-clause-copies g c = λ source_tells tells.
     let old = c.args.to.now in
-    let mid = c.begin.new.to in
+    let mid = c.begin.new.volume in
     let b = c.in_default.ensures in
     let source = table_of c.args.from.now.geometry (g.N.NorState.bytes c.args.from.now.nor.now) in
     let first = table_of old.geometry (g.B.NorState.bytes old.nor.now) in
@@ -71,7 +71,7 @@ returns-in-Err-copy_all-clause-copies g c = λ source_tells tells.
 pub returns-in-Ok-clause-idle : goal.returns-in-Ok-clause-idle
 returns-in-Ok-clause-idle g c = λ source_tells tells all.
     let old = c.args.to.now in
-    let mid = c.begin.new.to in
+    let mid = c.begin.new.volume in
     let b = c.in_default.ensures in
     let source = table_of c.args.from.now.geometry (g.N.NorState.bytes c.args.from.now.nor.now) in
     let first = table_of old.geometry (g.B.NorState.bytes old.nor.now) in
@@ -82,7 +82,7 @@ returns-in-Ok-clause-idle g c = λ source_tells tells all.
 pub returns-in-Err-copy_all-clause-idle : goal.returns-in-Err-copy_all-clause-idle
 returns-in-Err-copy_all-clause-idle g c = λ source_tells tells all.
     let old = c.args.to.now in
-    let mid = c.begin.new.to in
+    let mid = c.begin.new.volume in
     let b = c.in_default.ensures in
     let source = table_of c.args.from.now.geometry (g.N.NorState.bytes c.args.from.now.nor.now) in
     let first = table_of old.geometry (g.B.NorState.bytes old.nor.now) in

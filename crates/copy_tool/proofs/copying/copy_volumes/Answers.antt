@@ -52,3 +52,6 @@ returns-in-Ok-say-clause-same g c = same_then c.copy_files.ensures.same c.say.en
 
 pub returns-in-Ok-say-clause-among : goal.returns-in-Ok-say-clause-among
 returns-in-Ok-say-clause-among g c = rw c.end_of_copy.ensures.ends (said_among c.in-Ok.damaged)
+
+pub returns-in-Err-say-clause-same : goal.returns-in-Err-say-clause-same
+returns-in-Err-say-clause-same g c = same_then c.copy_files.ensures.same c.say.ensures.same

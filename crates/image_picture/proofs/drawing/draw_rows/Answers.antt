@@ -1,4 +1,4 @@
-use Rattle.std.proofs.Common.{◌≡◌, ◌≤◌, ◌<◌, ◌+◌, ℕ, List, ap, arith}
+use Rattle.std.proofs.Common.{◌≡◌, ◌<◌, ◌+◌, ℕ, List, ap, arith}
 use Rattle.image_picture.specs.Picture.{row_of}
 use Rattle.image_picture.proofs.Speaking.{on_err}
 use Rattle.image_picture.proofs.Turns.{turns_more, turns_stop, turns_all}

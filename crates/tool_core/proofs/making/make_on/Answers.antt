@@ -15,7 +15,7 @@ returns-clause-does g c =
     make_formatted c.make_board-ending.result c.conclude-2.result c.in_default.ensures.accepted c.accept_folder.ensures.kept made.kept c.format_board.ensures.changes c.in_default-format_board.ensures.done made.makes made.behind made.cause made.folder_cause made.later.no_full made.later.no_names c.conclude-2.ensures
 
 pub returns-in-Err-clause-ends : goal.returns-in-Err-clause-ends
-returns-in-Err-clause-ends g c = ends_at_once MayEndMake c.in-Err.ending c.conclude.result (stops_among _ _ _ _ c.in-Err.ending c.in-Err.ensures.stops) c.conclude.ensures
+returns-in-Err-clause-ends g c = ends_at_once MayEndMake c.in-Err.ending c.conclude.result (stops_among g.F.FolderState c.args.g c.args.folder.now c.accept_folder.new.folder c.in-Err.ending c.in-Err.ensures.stops) c.conclude.ensures
 
 pub returns-clause-ends : goal.returns-clause-ends
 returns-clause-ends g c =
