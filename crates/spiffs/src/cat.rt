@@ -102,10 +102,10 @@ fn print_in<C: HostChip>(
     let g = geometry_of(&meant.top)?;
     let bufs = memory.lend();
     let lent = Lent {
-        work: bufs.work,
-        slots: bufs.slots,
-        cache: bufs.cache,
-        check: bufs.check,
+        work: &mut *bufs.work,
+        slots: &mut *bufs.slots,
+        cache: &mut *bufs.cache,
+        check: &mut *bufs.check,
     };
     print_on(rt, &g, name, row, lent)
 }

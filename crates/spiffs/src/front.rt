@@ -85,7 +85,8 @@ pub fn begin_front(rt: &HostRuntime, words: &[String]) -> Result<u8, Refusal> {
         Err(why) => return Ok(refuse_line(rt, words, why)),
     };
     match perform(rt, words, asked) {
-        Ok(status) | Err(Stop::Status(status)) => Ok(status),
+        Ok(status) => Ok(status),
+        Err(Stop::Status(status)) => Ok(status),
         Err(Stop::Refusal(why)) => Err(why),
     }
 }

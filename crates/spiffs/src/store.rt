@@ -98,8 +98,15 @@ fn run_all<C: HostChip>(
         let (own, behind) = mays.split_at(count_lines(text.as_slice()).min(mays.len()));
         judge(rt, meant, text.as_slice(), &told, own)?;
         mays = behind;
-        first = first.or(told.seen);
-        row = told.row;
+        let Told {
+            row: after,
+            seen,
+            status: _,
+            said: _,
+            guard: _,
+        } = told;
+        first = first.or(seen);
+        row = after;
     }
     Ok(first)
 }
