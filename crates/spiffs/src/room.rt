@@ -7,6 +7,7 @@ use crate::trees::{explain_name, explain_passed};
 use crate::{USAGE, explain, take_memory, tell};
 use call_script::parse_number;
 use file_room::largest_file;
+use folder_core::Folder;
 use folder_size::{Need, Shape, least_blocks};
 use front_edge::HostChip;
 use front_words::{Asked, folder_word, known_block, known_meta, known_page};
@@ -88,6 +89,21 @@ fn shape_of(asked: &Asked) -> Option<Shape> {
         phys: block,
         meta: known_meta(asked)?,
     })
+}
+
+/// Says how many blocks would do, where an image has no room for the files of a folder.
+pub fn explain_need<F: Folder>(rt: &HostRuntime, meant: &Meant<'_>, folder: &mut F) {
+    let shape = Shape {
+        page: meant.volume.page,
+        block: meant.volume.block,
+        phys: meant.volume.block,
+        meta: meant.volume.meta,
+    };
+    if let Ok(Need::Blocks(blocks)) = least_blocks(shape, folder) {
+        let bytes = u64::from(blocks) * u64::from(shape.block);
+        // (if standard error fails too there is nobody to tell)
+        let _said = eprintln!(rt; "spiffs: {blocks} blocks would do: --size {bytes}");
+    }
 }
 
 // Prints how many blocks are needed, and how many bytes these are.

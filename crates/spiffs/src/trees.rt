@@ -1,8 +1,9 @@
 //! Folders in folders: `pack` makes an image of a tree, and `unpack` puts the files of an image into one.
 use crate::give::{Guard, Told, chip_file, end_told, give_on, row_of};
 use crate::meant::{Meant, fail, text_of};
+use crate::room::explain_need;
 use crate::stop::Stop;
-use crate::{BAD_NAME, BOARD_FAULT, FOLDER_FAULT, Memory, explain, take_memory};
+use crate::{BAD_NAME, BOARD_FAULT, FOLDER_FAULT, FULL, Memory, explain, take_memory};
 use folder_core::{Folder, MemFolder};
 use front_edge::{HostChip, blank_chip};
 use front_words::{folder_word, push_word};
@@ -71,16 +72,19 @@ fn end_pack<'r, C: HostChip>(
     rt: &'r HostRuntime,
     meant: &Meant<'_>,
     tree: &TreeFiles<&'r HostRuntime>,
-    folder: &StdFolder<&TreeFiles<&'r HostRuntime>>,
+    folder: &mut StdFolder<&TreeFiles<&'r HostRuntime>>,
     told: &Told<C>,
 ) -> u8 {
     let status = end_told(rt, meant, told);
     // (if standard error fails too there is nobody to tell)
     let _said = explain_passed(rt, tree);
-    match (status, folder.bad_name()) {
-        (FOLDER_FAULT, _) => explain(rt, folder.trouble()),
-        (BAD_NAME, Some(bad)) => {
-            let _said = explain_name(rt, tree, bad);
+    match status {
+        FOLDER_FAULT => explain(rt, folder.trouble()),
+        FULL => explain_need(rt, meant, folder),
+        BAD_NAME => {
+            if let Some(bad) = folder.bad_name() {
+                let _said = explain_name(rt, tree, bad);
+            }
         }
         _ => {}
     }
@@ -112,12 +116,12 @@ pub fn pack(rt: &HostRuntime, meant: &mut Meant<'_>) -> Result<u8, Stop> {
     if meant.asked.is_dry {
         let row = row_of(rt, meant, blank_chip(rt.alloc(), meant.size, meant.unit)?)?;
         let told = give_on(rt, meant, row, b"", &mut folder, &mut memory, Guard::Open)?;
-        return Ok(end_pack(rt, meant, &tree, &folder, &told));
+        return Ok(end_pack(rt, meant, &tree, &mut folder, &told));
     }
     let access = access_of(meant, &mut memory);
     let row = row_of(rt, meant, chip_file(rt, meant, access))?;
     let told = give_on(rt, meant, row, b"", &mut folder, &mut memory, Guard::Open)?;
-    let status = end_pack(rt, meant, &tree, &folder, &told);
+    let status = end_pack(rt, meant, &tree, &mut folder, &told);
     if status == 0 {
         if let Err(why) = cut_off(rt, meant) {
             return Err(fail(rt, meant.image, &Trouble::Write(why), BOARD_FAULT));
