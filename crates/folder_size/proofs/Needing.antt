@@ -94,11 +94,14 @@ module _ (h : Geometry) (shape : Shape) (files : List Entry) (hs : HasShape h sh
       let e : g.blocks ≤ 32766 / entries h = subst (λ (n : ℕ). g.blocks ≤ 32766 / n) (entries-same g h shape files gs hs) by_entries in
       omega (arith, p, e)
 
-  never : most_blocks h < needed → IsNever shape files (index_sum h files) (data_sum h files)
-  never over g gs written =
-      fewer g gs (omega (arith, over, few_blocks g gs written))
-      ∙ ap (λ (n : ℕ). Some (Full n (data_sum g files))) (index-same g h shape files gs hs)
-      ∙ ap (λ (n : ℕ). Some (Full (index_sum h files) n)) (data-same g h shape files gs hs)
+  never : written_refusal shape 4 ≡ None → most_blocks h < needed → IsNever shape files (index_sum h files) (data_sum h files)
+  never four over = record {
+    is_volume = four;
+    refused = λ g gs written.
+        fewer g gs (omega (arith, over, few_blocks g gs written))
+        ∙ ap (λ (n : ℕ). Some (Full n (data_sum g files))) (index-same g h shape files gs hs)
+        ∙ ap (λ (n : ℕ). Some (Full (index_sum h files) n)) (data-same g h shape files gs hs);
+  }
 
   -- so many blocks make a volume of the shape, if four do
   volume_of : written_refusal shape 4 ≡ None → needed ≤ most_blocks h → written_refusal shape needed ≡ None
@@ -119,7 +122,7 @@ module _ (h : Geometry) (shape : Shape) (files : List Entry) (hs : HasShape h sh
   by_need : written_refusal shape 4 ≡ None → IsNeed shape files (need_by h (index_sum h files) (data_sum h files))
   unfolding need_by
   by_need four = ⊎_elim
-      (λ (over : nat_lt (most_blocks h) needed ≡ true). rw over (never (ltb-true (most_blocks h) needed over)))
+      (λ (over : nat_lt (most_blocks h) needed ≡ true). rw over (never four (ltb-true (most_blocks h) needed over)))
       (λ (within : nat_lt (most_blocks h) needed ≡ false). rw within (least needed refl (volume_of four (ltb-false (most_blocks h) needed within))))
       (cases_Bool (nat_lt (most_blocks h) needed))
 
@@ -135,7 +138,10 @@ module _ (h : Geometry) (shape : Shape) (files : List Entry) (hs : HasShape h sh
 
   -- a bad name
   bad_name : (at : ℕ) → Some (BadNames at) ≡ make_refusal h files → IsBadName shape files at
-  bad_name at is g gs = by_names g files at (subst (Tells h files (first_bad files)) (sym is) (tells h files))
+  bad_name at is = record {
+    is_volume = four;
+    refused = λ g gs. by_names g files at (subst (Tells h files (first_bad files)) (sym is) (tells h files));
+  }
 
   -- want of room
   more_needed : (index pages : ℕ) → Some (Full index pages) ≡ make_refusal h files → IsNeed shape files (need_by h index pages)

@@ -39,13 +39,15 @@ pub record IsLeast (shape : Shape) (files : List Entry) (n : ℕ) : Type 0 where
   pub enough : (g : Geometry) → HasShape g shape → n ≤ g.blocks → make_refusal g files ≡ None
   pub fewer : (g : Geometry) → HasShape g shape → g.blocks < n → make_refusal g files ≡ Some (Full (index_sum g files) (data_sum g files))
 
--- with any number of blocks the name of that file is refused
-abbrev pub IsBadName : Shape → List Entry → ℕ → Type 0
-IsBadName shape files at = (g : Geometry) → HasShape g shape → make_refusal g files ≡ Some (BadNames at)
+-- Four blocks make a volume that can be written; with any number of blocks the name of that file is refused.
+pub record IsBadName (shape : Shape) (files : List Entry) (at : ℕ) : Type 0 where
+  pub is_volume : written_refusal shape 4 ≡ None
+  pub refused : (g : Geometry) → HasShape g shape → make_refusal g files ≡ Some (BadNames at)
 
--- with any number of blocks that makes a volume which can be written, the files are refused for want of room
-abbrev pub IsNever : Shape → List Entry → (index pages : ℕ) → Type 0
-IsNever shape files index pages = (g : Geometry) → HasShape g shape → write_refusal g ≡ None → make_refusal g files ≡ Some (Full index pages)
+-- Four blocks make a volume that can be written; with any number of blocks that makes one the files are refused for want of room.
+pub record IsNever (shape : Shape) (files : List Entry) (index pages : ℕ) : Type 0 where
+  pub is_volume : written_refusal shape 4 ≡ None
+  pub refused : (g : Geometry) → HasShape g shape → write_refusal g ≡ None → make_refusal g files ≡ Some (Full index pages)
 
 -- no number of blocks makes a volume that can be written; four don't for that reason
 pub record IsNoVolume (shape : Shape) (why : GeoErr) : Type 0 where

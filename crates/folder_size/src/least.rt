@@ -78,7 +78,8 @@ fn need_by_refusal(g: &Geometry, why: Option<Refusal>) -> Need
     }
 }
 
-/// How many blocks a volume of a shape needs at least, so that an image of the folder's files can be made on it. No byte of a file is read.
+/// How many blocks a volume of a shape needs at least, so that an image of the folder's files can be made on it. What is wrong with the
+/// numbers comes first, then with a name, then room. No byte of a file is read, and it fails only where the folder failed.
 pub fn least_blocks<F: Folder>(shape: Shape, folder: &mut F) -> Result<Need, Failed>
     ensures need { IfOk result (IsNeed shape (F.entries folder.old)) }
     ensures cause { OnErr result (Rose (F.faults folder.old) (F.faults folder.new)) }

@@ -13,6 +13,7 @@ use geometry::Geometry;
 use host_edge::{Access, StdFolder};
 use nor_core::Nor;
 use table_model::{FsErr, Stat};
+use tool_parts::Buffers;
 use tree_paths::decoded;
 use vol_mount::{Lent, Reader, accept};
 
@@ -97,10 +98,9 @@ fn print_in<C: HostChip>(
     meant: &Meant<'_>,
     name: &[u8],
     row: &mut ChipRow<C>,
-    memory: &mut Memory,
+    bufs: &mut Buffers<'_>,
 ) -> Option<Printed> {
     let g = geometry_of(&meant.top)?;
-    let bufs = memory.lend();
     let lent = Lent {
         work: &mut *bufs.work,
         slots: &mut *bufs.slots,
@@ -128,7 +128,8 @@ pub fn cat(rt: &HostRuntime, meant: &mut Meant<'_>) -> Result<u8, Stop> {
     let name = decoded(rt.alloc(), given.as_bytes())?;
     let mut memory = take_memory(rt, &meant.top)?;
     let mut row = row_of(rt, meant, chip_file(rt, meant, Access::Read))?;
-    match print_in(rt, meant, name.as_slice(), &mut row, &mut memory) {
+    let printed = print_in(rt, meant, name.as_slice(), &mut row, &mut memory.lend());
+    match printed {
         Some(Printed::Whole) => Ok(0),
         Some(Printed::Missing) => {
             let why = FsErr::NotFound;

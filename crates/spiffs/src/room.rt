@@ -91,6 +91,11 @@ fn shape_of(asked: &Asked) -> Option<Shape> {
     })
 }
 
+// The bytes of so many blocks.
+fn bytes_of(blocks: u32, block: u32) -> u64 {
+    u64::from(blocks) * u64::from(block)
+}
+
 /// Says how many blocks would do, where an image has no room for the files of a folder.
 pub fn explain_need<F: Folder>(rt: &HostRuntime, meant: &Meant<'_>, folder: &mut F) {
     let shape = Shape {
@@ -100,7 +105,7 @@ pub fn explain_need<F: Folder>(rt: &HostRuntime, meant: &Meant<'_>, folder: &mut
         meta: meant.volume.meta,
     };
     if let Ok(Need::Blocks(blocks)) = least_blocks(shape, folder) {
-        let bytes = u64::from(blocks) * u64::from(shape.block);
+        let bytes = bytes_of(blocks, shape.block);
         // (if standard error fails too there is nobody to tell)
         let _said = eprintln!(rt; "spiffs: {blocks} blocks would do: --size {bytes}");
     }
@@ -108,7 +113,7 @@ pub fn explain_need<F: Folder>(rt: &HostRuntime, meant: &Meant<'_>, folder: &mut
 
 // Prints how many blocks are needed, and how many bytes these are.
 fn tell_blocks(rt: &HostRuntime, shape: Shape, blocks: u32) -> Result<u8, Stop> {
-    let bytes = u64::from(blocks) * u64::from(shape.block);
+    let bytes = bytes_of(blocks, shape.block);
     let line = format!(in rt.alloc(); "blocks {blocks} bytes {bytes}\n")?;
     Ok(tell(rt, &line, 0))
 }

@@ -88,13 +88,13 @@ fn is_allowed(may: May, reply: &[u8]) -> bool {
 
 // The first two words of a line.
 fn call_of(line: &[u8]) -> &[u8] {
-    let mut spaces = 0;
+    let mut has_space = false;
     for (i, byte) in line.iter().enumerate() {
         if *byte == b' ' {
-            spaces += 1;
-        }
-        if spaces == 2 {
-            return &line[..i];
+            if has_space {
+                return &line[..i];
+            }
+            has_space = true;
         }
     }
     line

@@ -114,7 +114,8 @@ pub fn pack(rt: &HostRuntime, meant: &mut Meant<'_>) -> Result<u8, Stop> {
     let tree = TreeFiles::new(rt, rt.alloc(), top, false)?;
     let mut folder = StdFolder::new(&tree, rt.alloc(), top)?;
     if meant.asked.is_dry {
-        let row = row_of(rt, meant, blank_chip(rt.alloc(), meant.size, meant.unit)?)?;
+        let chip = blank_chip(rt.alloc(), meant.size, meant.unit)?;
+        let row = row_of(rt, meant, chip)?;
         let told = give_on(rt, meant, row, b"", &mut folder, &mut memory, Guard::Open)?;
         return Ok(end_pack(rt, meant, &tree, &mut folder, &told));
     }
