@@ -52,7 +52,7 @@ impl fmt::Display for Better {
         let end = if self.removes { " for good" } else { "" };
         write!(
             f,
-            "try META {meta}, or begin with --force to {what} {lost} damaged files{end}"
+            "try META {meta}, or with --force {what} {lost} damaged files{end}"
         )
     }
 }

@@ -107,7 +107,7 @@ pub fn explain_need<F: Folder>(rt: &HostRuntime, meant: &Meant<'_>, folder: &mut
     if let Ok(Need::Blocks(blocks)) = least_blocks(shape, folder) {
         let bytes = bytes_of(blocks, shape.block);
         // (if standard error fails too there is nobody to tell)
-        let _said = eprintln!(rt; "spiffs: {blocks} blocks would do: --size {bytes}");
+        let _said = eprintln!(rt; "spiffs: {blocks} blocks would do, {bytes} bytes");
     }
 }
 

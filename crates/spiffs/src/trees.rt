@@ -1,18 +1,20 @@
 //! Folders in folders: `pack` makes an image of a tree, and `unpack` puts the files of an image into one.
-use crate::give::{Guard, Told, chip_file, end_told, give_on, row_of};
+use crate::give::{Guard, Told, chip_copy, chip_file, end_told, give_on, row_of};
 use crate::meant::{Meant, fail, text_of};
 use crate::room::explain_need;
 use crate::stop::Stop;
 use crate::{BAD_NAME, BOARD_FAULT, FOLDER_FAULT, FULL, Memory, explain, take_memory};
+use chip_row::ChipRow;
 use folder_core::{Folder, MemFolder};
 use front_edge::{HostChip, blank_chip};
 use front_words::{folder_word, push_word};
 use host_edge::{Access, BadName, StdFolder, Trouble};
 use host_tree::TreeFiles;
+use nor_core::{Failed, Nor};
 use std::alloc::{AllocError, Global};
 use std::fs::OpenOptions;
 use std::io;
-use tool_core::is_accepted;
+use std::io::Write;
 
 // The name of a file in the folder of a tree's files, as it stands in the tree.
 fn bad_name_in<'f>(bad: BadName<'f>, path: &'f str, by: &'f str) -> BadName<'f> {
@@ -58,11 +60,24 @@ pub fn explain_passed(rt: &HostRuntime, tree: &TreeFiles<&HostRuntime>) -> io::R
     Ok(())
 }
 
-// Cuts the image's file off behind the volume.
-fn cut_off(rt: &HostRuntime, meant: &Meant<'_>) -> io::Result<()> {
-    let file = OpenOptions::new().write(true).open(rt, meant.image)?;
-    if file.metadata()?.len() > u64::from(meant.size) {
-        file.set_len(u64::from(meant.size))?;
+// The bytes of a row of chips in memory.
+fn bytes_of<C: HostChip>(alloc: Global, row: &mut ChipRow<C>) -> Result<Vec<u8>, Stop> {
+    let mut bytes = vec![in alloc; 0u8; row.size() as usize]?;
+    if bytes.is_empty() {
+        return Ok(bytes);
+    }
+    match row.read(0, &mut bytes) {
+        Ok(()) => Ok(bytes),
+        Err(Failed) => Err(Stop::Status(BOARD_FAULT)),
+    }
+}
+
+// Writes the image's file, which is made if it isn't there. What it has behind the volume is cut off.
+fn write_file(rt: &HostRuntime, path: &str, bytes: &[u8]) -> io::Result<()> {
+    let mut file = OpenOptions::new().write(true).create(true).open(rt, path)?;
+    file.write_all(bytes)?;
+    if file.metadata()?.len() > bytes.len() as u64 {
+        file.set_len(bytes.len() as u64)?;
     }
     Ok(())
 }
@@ -91,44 +106,30 @@ fn end_pack<'r, C: HostChip>(
     status
 }
 
-// What the image's file is opened for: it is made where the line is accepted.
-fn access_of(meant: &Meant<'_>, memory: &mut Memory) -> Access {
-    if is_accepted(&meant.top, meant.unit, meant.size, &memory.lend()) {
-        Access::Create
-    } else {
-        Access::Write
-    }
-}
-
 // The line of the top call with the folder's name.
 fn with_folder(alloc: Global, meant: &mut Meant<'_>) -> Result<(), AllocError> {
     let folder = text_of(folder_word(meant.words, &meant.asked));
     push_word(alloc, &mut meant.top, folder)
 }
 
-/// Makes an image of the tree below a folder. What the file has behind the volume is cut off.
+/// Makes an image of the tree below a folder. It is made in memory, and the file is written once it is whole; what the file has behind the
+/// volume is cut off.
 pub fn pack(rt: &HostRuntime, meant: &mut Meant<'_>) -> Result<u8, Stop> {
     with_folder(rt.alloc(), meant)?;
     let top = text_of(folder_word(meant.words, &meant.asked));
     let mut memory = take_memory(rt, &meant.top)?;
     let tree = TreeFiles::new(rt, rt.alloc(), top, false)?;
     let mut folder = StdFolder::new(&tree, rt.alloc(), top)?;
-    if meant.asked.is_dry {
-        let chip = blank_chip(rt.alloc(), meant.size, meant.unit)?;
-        let row = row_of(rt, meant, chip)?;
-        let told = give_on(rt, meant, row, b"", &mut folder, &mut memory, Guard::Open)?;
-        return Ok(end_pack(rt, meant, &tree, &mut folder, &told));
-    }
-    let access = access_of(meant, &mut memory);
-    let row = row_of(rt, meant, chip_file(rt, meant, access))?;
-    let told = give_on(rt, meant, row, b"", &mut folder, &mut memory, Guard::Open)?;
-    let status = end_pack(rt, meant, &tree, &mut folder, &told);
-    if status == 0 {
-        if let Err(why) = cut_off(rt, meant) {
+    let chip = blank_chip(rt.alloc(), meant.size, meant.unit)?;
+    let row = row_of(rt, meant, chip)?;
+    let mut told = give_on(rt, meant, row, b"", &mut folder, &mut memory, Guard::Open)?;
+    if told.status == 0 && !meant.asked.is_dry {
+        let bytes = bytes_of(rt.alloc(), &mut told.row)?;
+        if let Err(why) = write_file(rt, meant.image, &bytes) {
             return Err(fail(rt, meant.image, &Trouble::Write(why), BOARD_FAULT));
         }
     }
-    Ok(status)
+    Ok(end_pack(rt, meant, &tree, &mut folder, &told))
 }
 
 // Tells what would be put into the tree.
@@ -139,7 +140,8 @@ fn unpack_dry(rt: &HostRuntime, meant: &Meant<'_>, memory: &mut Memory) -> Resul
     Ok(end_told(rt, meant, &told))
 }
 
-/// Puts the files of the volume into the tree below a folder, which is made if it isn't there.
+/// Puts the files of the volume into the tree below a folder, which is made if it isn't there. They are read from a copy in memory, so an
+/// image below that folder may be written over.
 pub fn unpack(rt: &HostRuntime, meant: &mut Meant<'_>) -> Result<u8, Stop> {
     with_folder(rt.alloc(), meant)?;
     let top = text_of(folder_word(meant.words, &meant.asked));
@@ -149,7 +151,8 @@ pub fn unpack(rt: &HostRuntime, meant: &mut Meant<'_>) -> Result<u8, Stop> {
     }
     let tree = TreeFiles::new(rt, rt.alloc(), top, true)?;
     let mut folder = StdFolder::new(&tree, rt.alloc(), top)?;
-    let row = row_of(rt, meant, chip_file(rt, meant, Access::Read))?;
+    let chip = chip_copy(rt, meant)?;
+    let row = row_of(rt, meant, chip)?;
     let told = give_on(rt, meant, row, b"", &mut folder, &mut memory, Guard::Open)?;
     let status = end_told(rt, meant, &told);
     if status == FOLDER_FAULT {
