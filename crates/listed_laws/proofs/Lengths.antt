@@ -1,5 +1,5 @@
 -- Two candidates at one place have the same number of blocks.
-use Rattle.std.proofs.Common.{◌≡◌, ℕ, ◌-◌, ◌+◌, ◌*◌, ◌/◌, ◌<◌, ◌≤◌, Bool, true, false, List, drop, bit_xor, refl, sym, ap, ◌∙◌, subst, arith, ⊎_elim}
+use Rattle.std.proofs.Common.{◌≡◌, ℕ, ◌-◌, ◌+◌, ◌*◌, ◌/◌, ◌<◌, ◌≤◌, Bool, true, false, List, drop, bit_xor, refl, sym, ap, ◌∙◌, arith, ⊎_elim}
 use Rattle.std.proofs.lemmas.Bool.{cases_Bool, eqb-true, true_from_ne_false}
 use Rattle.geometry.specs.declared.geometry.Geometry.{Geometry}
 use Rattle.geometry.specs.declared.magic.MagicKind.{MagicKind}
@@ -8,7 +8,7 @@ use Rattle.geometry.specs.Rules.{lookups_in}
 use Rattle.geometry.specs.Numbers.{lookups, right_magic, length_mark}
 use Rattle.nor_core.specs.Flash.{word_at}
 use Rattle.image_model.specs.Places.{has_magic, slot_of}
-use Rattle.volume_detect.specs.Candidates.{SameBlocks, IsLongest}
+use Rattle.volume_detect.specs.Candidates.{SameBlocks}
 use Rattle.volume_detect.specs.Places.{IsFoundAt, byte_of}
 use Rattle.volume_detect.specs.Rows.{AtMostOne}
 use Rattle.volume_detect.proofs.Gaps.{gap_from_count}

@@ -1,8 +1,7 @@
 -- A tidy volume with which a file begins stands in the list of its candidates.
-use Rattle.std.proofs.Common.{◌≡◌, ℕ, List, Any, All, ap, refl, sym, ◌∙◌, subst}
+use Rattle.std.proofs.Common.{◌≡◌, ℕ, List, Any, ap, refl, sym, ◌∙◌, subst}
 use Rattle.std.proofs.lemmas.List.Elements.{All-contains}
 use Rattle.geometry.specs.declared.geometry.Geometry.{Geometry}
-use Rattle.image_model.specs.Tidy.{IsTidy}
 use Rattle.meta_guess.specs.Guesses.{SameBut}
 use Rattle.volume_detect.specs.Places.{IsFoundAt, IsFoundFirst, byte_of}
 use Rattle.volume_rank.specs.declared.found.Found.{Found}
