@@ -188,8 +188,10 @@ def pages_of(image, numbers):
         for i in range(each - lookups):
             entry = int.from_bytes(image[at + 2 * i : at + 2 * i + 2], "little")
             page = image[at + (lookups + i) * size :][:size]
-            if entry in (0, 0xFFFF):
-                found.append(("free" if entry else "deleted", 0))
+            if entry == 0:
+                found.append(("deleted", 0))
+            elif entry == 0xFFFF:
+                found.append(("neither" if page.strip(b"\xff") else "free", 0))
             elif not in_order or not is_live(page, entry):
                 found.append(("neither", entry % 0x8000))
             elif entry < 0x8000:
@@ -197,6 +199,17 @@ def pages_of(image, numbers):
             else:
                 found.append(("header" if page[2:4] == b"\0\0" else "further index", entry % 0x8000))
     return found
+
+
+SIGNS = {"lookup": "L", "free": ".", "deleted": "x", "header": "H", "further index": "i", "data": "d", "neither": "?"}
+
+
+def drawn_by(program, part, numbers):
+    """The signs of all pages, as the program draws them."""
+    size, block, blocks, meta, kind = numbers
+    words = ["-p", size, "-b", block, "-s", str(int(block) * int(blocks)), "--meta", meta, "--magic", kind]
+    _, lines = program.give("picture", part, *words)
+    return "".join(line.split()[-1] for line in lines[1:-1])
 
 
 def compare_picture(page, image, numbers):
@@ -252,6 +265,7 @@ def compare_list(page, program, path, at=0, numbers=None):
         image = file.read()[at:]
     part = program.file(image, "part")
     same("list", page.listed(), program.give("list", *numbers, part))
+    same("the signs that the program draws", drawn_by(program, part, numbers), "".join(SIGNS[kind] for kind, _ in pages_of(image, numbers)))
     return part, image, numbers
 
 

@@ -37,7 +37,8 @@ fn kind_of(g: &Geometry, image: &[u8], p: u32) -> (Kind, u16) {
     let entry = entry_of(g, image, p);
     let id = entry % INDEX;
     match entry {
-        FREE => (Kind::Free, 0),
+        FREE if page_of(g, image, p).iter().all(|byte| *byte == 0xFF) => (Kind::Free, 0),
+        FREE => (Kind::Neither, 0),
         0 => (Kind::Deleted, 0),
         _ if !is_live(g, image, p) => (Kind::Neither, id),
         _ if entry < INDEX => (Kind::Data, id),
