@@ -31,19 +31,33 @@ passes_both p q n m three three' gap gap' =
     let zero_one : 0 ≡ 1 → ⊥ = λ e. absurd (omega (arith, e)) in
     let zero_two : 0 ≡ 2 → ⊥ = λ e. absurd (omega (arith, e)) in
     let one_two : 1 ≡ 2 → ⊥ = λ e. absurd (omega (arith, e)) in
-    let has : (b c : ℕ) → b < 3 → c < 3 → (b ≡ c → ⊥) → p b ≡ false → p c ≡ true = λ b c low low'. other_passes p n gap b c (omega (arith, low, three)) (omega (arith, low', three)) in
-    let has' : (b c : ℕ) → b < 3 → c < 3 → (b ≡ c → ⊥) → q b ≡ false → q c ≡ true = λ b c low low'. other_passes q m gap' b c (omega (arith, low, three')) (omega (arith, low', three')) in
+    let has : (b c : ℕ) → b < 3 → c < 3 → (b ≡ c → ⊥) → p b ≡ false → p c ≡ true =
+    λ b c low low'. other_passes p n gap b c (omega (arith, low, three)) (omega (arith, low', three)) in
+    let has' : (b c : ℕ) → b < 3 → c < 3 → (b ≡ c → ⊥) → q b ≡ false → q c ≡ true =
+    λ b c low low'. other_passes q m gap' b c (omega (arith, low, three')) (omega (arith, low', three')) in
     ⊎_elim
     (λ (yes : p 0 ≡ true). ⊎_elim
     (λ (yes' : q 0 ≡ true). record { block = 0; low = omega arith; first = yes; second = yes' })
     (λ (no' : q 0 ≡ false). ⊎_elim
     (λ (next : p 1 ≡ true). record { block = 1; low = omega arith; first = next; second = has' 0 1 (omega arith) (omega arith) zero_one no' })
-    (λ (next : p 1 ≡ false). record { block = 2; low = omega arith; first = has 1 2 (omega arith) (omega arith) one_two next; second = has' 0 2 (omega arith) (omega arith) zero_two no' })
+    (λ (next : p 1 ≡ false).
+    record {
+      block = 2;
+      low = omega arith;
+      first = has 1 2 (omega arith) (omega arith) one_two next;
+      second = has' 0 2 (omega arith) (omega arith) zero_two no';
+    })
     (cases_Bool (p 1)))
     (cases_Bool (q 0)))
     (λ (no : p 0 ≡ false). ⊎_elim
     (λ (next : q 1 ≡ true). record { block = 1; low = omega arith; first = has 0 1 (omega arith) (omega arith) zero_one no; second = next })
-    (λ (next : q 1 ≡ false). record { block = 2; low = omega arith; first = has 0 2 (omega arith) (omega arith) zero_two no; second = has' 1 2 (omega arith) (omega arith) one_two next })
+    (λ (next : q 1 ≡ false).
+    record {
+      block = 2;
+      low = omega arith;
+      first = has 0 2 (omega arith) (omega arith) zero_two no;
+      second = has' 1 2 (omega arith) (omega arith) one_two next;
+    })
     (cases_Bool (q 1)))
     (cases_Bool (p 0))
 
@@ -57,7 +71,8 @@ unfolding has_magic slot_of lookups
 word_is g image b has = eqb-true _ _ has
 
 -- and tells how many blocks there are to the end
-word_tells : (g : Geometry) (image : List ℕ) (b page block : ℕ) → g.page ≡ page → g.block ≡ block → g.magic ≡ Length → has_magic g image b ≡ true → magic_word page block image b ≡ bit_xor (bit_xor 0x0529 page) (g.blocks - b)
+word_tells : (g : Geometry) (image : List ℕ) (b page block : ℕ) → g.page ≡ page → g.block ≡ block → g.magic ≡ Length → has_magic g image b ≡ true →
+    magic_word page block image b ≡ bit_xor (bit_xor 0x0529 page) (g.blocks - b)
 word_tells g image b page block page_is block_is kind has =
     ap (λ (x : ℕ). magic_word x block image b) (sym page_is)
     ∙ ap (λ (y : ℕ). magic_word g.page y image b) (sym block_is)
@@ -94,10 +109,15 @@ module _ (file : List ℕ) (place : ℕ) (g h : Geometry) (found : IsFoundAt fil
       let three : 3 ≤ g.blocks = g.valid.some_blocks in
       let three' : 3 ≤ h.blocks = h.valid.some_blocks in
       let like : SameBlocks g h = same g h found found' in
-      let w : PassesBoth (has_magic g image) (has_magic h image) = passes_both (has_magic g image) (has_magic h image) g.blocks h.blocks three three' (gap_from_count g image found.candidate.row.magics) (gap_from_count h image found'.candidate.row.magics) in
-      let tells : magic_word g.page g.block image w.block ≡ bit_xor (bit_xor 0x0529 g.page) (g.blocks - w.block) = word_tells g image w.block g.page g.block refl refl kind w.first in
-      let tells' : magic_word g.page g.block image w.block ≡ bit_xor (bit_xor 0x0529 g.page) (h.blocks - w.block) = word_tells h image w.block g.page g.block like.page like.block (like.magic ∙ kind) w.second in
-      let distance : h.blocks - w.block ≡ g.blocks - w.block = same_distance (bit_xor 0x0529 g.page) (h.blocks - w.block) (g.blocks - w.block) (sym tells' ∙ tells) in
+      let w : PassesBoth (has_magic g image) (has_magic h image) =
+      passes_both (has_magic g image) (has_magic h image) g.blocks h.blocks three three'
+      (gap_from_count g image found.candidate.row.magics) (gap_from_count h image found'.candidate.row.magics) in
+      let tells : magic_word g.page g.block image w.block ≡ bit_xor (bit_xor 0x0529 g.page) (g.blocks - w.block) =
+      word_tells g image w.block g.page g.block refl refl kind w.first in
+      let tells' : magic_word g.page g.block image w.block ≡ bit_xor (bit_xor 0x0529 g.page) (h.blocks - w.block) =
+      word_tells h image w.block g.page g.block like.page like.block (like.magic ∙ kind) w.second in
+      let distance : h.blocks - w.block ≡ g.blocks - w.block =
+      same_distance (bit_xor 0x0529 g.page) (h.blocks - w.block) (g.blocks - w.block) (sym tells' ∙ tells) in
       omega (arith, distance, w.low, three, three')
 
   by_kind : (kind : MagicKind) → g.magic ≡ kind → h.blocks ≡ g.blocks

@@ -44,7 +44,15 @@ found_for file g f first found at =
     let a : Geometry = found.candidate in
     let c : Geometry = first.candidate in
     let there : IsFoundAt file place a = subst (λ (p : ℕ). IsFoundAt file p a) at found.found in
-    let own : SameBut c g = record { page_is = sym first.page; block_is = sym first.block; blocks_is = sym first.blocks; phys_is = sym first.phys; meta_is = refl; magic_is = sym first.magic } in
+    let own : SameBut c g =
+    record {
+      page_is = sym first.page;
+      block_is = sym first.block;
+      blocks_is = sym first.blocks;
+      phys_is = sym first.phys;
+      meta_is = refl;
+      magic_is = sym first.magic;
+    } in
     let through : SameBut f.volume c = same_as f.volume a c (turned a f.volume found.volume.same) (same_there file place a c there first.place.3) in
     record { found = found; first = ap byte_of at ∙ first.place.2; same = same_as f.volume c g through own }
 
