@@ -8,7 +8,7 @@ use Rattle.front_words.specs.declared.option.Slot.{Slot}
 use Rattle.front_words.specs.Options.{rank}
 use Rattle.front_words.specs.Tokens.{Sort, Part, InPlace, Chose, Held, Twice, parts, sorted_parts, text_in, texts, held, place_in, places}
 use Rattle.front_words.specs.Pieces.{Piece, Stands, Whole, Pair, words_of, part_of, line, IsChosen, AreFree}
-use Rattle.front_words.specs.Asking.{asked_by, asked_from, gifts}
+use Rattle.front_words.specs.Asking.{asked_by, asked_from, gifts, in_slot}
 use Rattle.front_words.proofs.Parted.{parts_first}
 
 -- the parts of a line are those of its pieces
@@ -71,3 +71,20 @@ any_order before behind one other free =
     (λ r. held_swap r (map part_of before) (map part_of behind) (part_of one) (part_of other))
     (flat_swap place_in (map part_of before) (map part_of behind) (part_of one) (part_of other) (free_places one other free))
     ∙ ap (λ (l : List Part). asked_by l) (sym (parts_line (before ++ other ∷ one ∷ behind) ∙ map-append part_of before (other ∷ one ∷ behind)))
+
+-- the parts of a line with two neighbours
+module _ (before behind : List Piece) (one other : Piece) where
+  parts_around : parts (line (before ++ one ∷ other ∷ behind)) ≡ map part_of before ++ part_of one ∷ part_of other ∷ map part_of behind
+  parts_around = parts_line (before ++ one ∷ other ∷ behind) ∙ map-append part_of before (one ∷ other ∷ behind)
+
+pub names_any_order : (before behind : List Piece) (one other : Piece) → AreFree one other → places (parts (line (before ++ one ∷ other ∷ behind))) ≡ places (parts (line (before ++ other ∷ one ∷ behind)))
+names_any_order before behind one other free =
+    ap (λ (l : List Part). places l) (parts_around before behind one other)
+    ∙ flat_swap place_in (map part_of before) (map part_of behind) (part_of one) (part_of other) (free_places one other free)
+    ∙ ap (λ (l : List Part). places l) (sym (parts_around before behind other one))
+
+pub values_any_order : (before behind : List Piece) (one other : Piece) (slot : Slot) → AreFree one other → in_slot slot (parts (line (before ++ one ∷ other ∷ behind))) ≡ in_slot slot (parts (line (before ++ other ∷ one ∷ behind)))
+values_any_order before behind one other slot free =
+    ap (λ (l : List Part). in_slot slot l) (parts_around before behind one other)
+    ∙ held_swap (rank slot) (map part_of before) (map part_of behind) (part_of one) (part_of other)
+    ∙ ap (λ (l : List Part). in_slot slot l) (sym (parts_around before behind other one))

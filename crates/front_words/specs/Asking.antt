@@ -125,6 +125,15 @@ changes Rm = true
 changes Mv = true
 changes _ = false
 
+-- a word that another META stops: it changes files, or tells how full the volume is
+abbrev pub is_guarded : Word → Bool
+is_guarded Fsck = true
+is_guarded Put = true
+is_guarded Rm = true
+is_guarded Mv = true
+is_guarded Df = true
+is_guarded _ = false
+
 -- the size of the volume stands in no option
 abbrev pub is_sized : Word → Bool
 is_sized Gen = true
@@ -145,7 +154,7 @@ means word SizeSlot = not (is_sized word)
 means word AtSlot = not (makes word)
 means word Repair = is_fsck word
 means word Svg = is_picture word
-means word Force = changes word
+means word Force = is_guarded word
 means word _ = true
 
 -- what is wrong with what a line gives for a slot

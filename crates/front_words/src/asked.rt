@@ -187,7 +187,10 @@ fn has_meaning(word: Word, slot: Slot) -> bool
         Slot::At => !makes(word),
         Slot::Repair => matches!(word, Word::Fsck),
         Slot::Svg => matches!(word, Word::Picture),
-        Slot::Force => changes(word),
+        Slot::Force => matches!(
+            word,
+            Word::Fsck | Word::Put | Word::Rm | Word::Mv | Word::Df
+        ),
         _ => true,
     }
 }

@@ -1,5 +1,5 @@
 ghost use Rattle.std.specs.Prelude.{◌≡◌, ℕ, ◌<◌, List, ◌∷◌, ◌++◌, length, false, Ok, IsErr};
-ghost use Rattle.front_words.specs.Tokens.{Part, parts, Twice};
+ghost use Rattle.front_words.specs.Tokens.{Part, parts, places, Twice};
 ghost use Rattle.front_words.specs.Pieces.{Piece, line, AreFree};
 ghost use Rattle.front_words.specs.Asking.{asked_by, in_slot};
 ghost use Rattle.front_words.specs.Settling.{settled, needs_found, KeepsNumbers};
@@ -10,9 +10,14 @@ ghost use Rattle.front_words.specs.declared.settling.Candidate.{Candidate};
 ghost use Rattle.front_words.specs.declared.settling.Volume.{Volume};
 
 /// An option means the same wherever it stands: of two neighbours of which at least one is an option with its value, either may come first.
+/// The line then asks for the same, and has the same words in their places and the same value for each option.
 pub fn options_stand_in_any_order()
-    ensures { (before behind : List Piece) (one other : Piece) → AreFree one other →
+    ensures asked { (before behind : List Piece) (one other : Piece) → AreFree one other →
         asked_by (parts (line (before ++ one ∷ other ∷ behind))) ≡ asked_by (parts (line (before ++ other ∷ one ∷ behind))) }
+    ensures named { (before behind : List Piece) (one other : Piece) → AreFree one other →
+        places (parts (line (before ++ one ∷ other ∷ behind))) ≡ places (parts (line (before ++ other ∷ one ∷ behind))) }
+    ensures given { (before behind : List Piece) (one other : Piece) (slot : Slot) → AreFree one other →
+        in_slot slot (parts (line (before ++ one ∷ other ∷ behind))) ≡ in_slot slot (parts (line (before ++ other ∷ one ∷ behind))) }
 {}
 
 /// A line that gives an option twice is refused, whatever else it says.
