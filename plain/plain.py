@@ -45,7 +45,7 @@ PACKAGES = [
 ]
 
 # Crates that reach the files and streams of a host: they are built for Unix alone.
-HOST_CRATES = {"host_edge"}
+HOST_CRATES = {"front_edge", "host_edge", "host_tree"}
 
 # Crates of a registry.
 REGISTRY = {
