@@ -264,8 +264,11 @@ def compare_list(page, program, path, at=0, numbers=None):
     with open(path, "rb") as file:
         image = file.read()[at:]
     part = program.file(image, "part")
-    same("list", page.listed(), program.give("list", *numbers, part))
-    same("the signs that the program draws", drawn_by(program, part, numbers), "".join(SIGNS[kind] for kind, _ in pages_of(image, numbers)))
+    listed = program.give("list", *numbers, part)
+    same("list", page.listed(), listed)
+    if listed[0] not in (1, 2):
+        # (the numbers are taken)
+        same("the signs that the program draws", drawn_by(program, part, numbers), "".join(SIGNS[kind] for kind, _ in pages_of(image, numbers)))
     return part, image, numbers
 
 
