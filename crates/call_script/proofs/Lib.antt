@@ -1,3 +1,4 @@
+pub mod Plain
 pub mod Parting
 pub mod Numbers
 pub mod Putting

@@ -20,6 +20,10 @@ unescaped (a ∷ b ∷ []) = a ∷ b ∷ []
 unescaped (a ∷ b ∷ c ∷ rest) =
     if (a == 37) && is_hex b && is_hex c then byte_of b c ∷ unescaped rest else a ∷ unescaped (b ∷ c ∷ rest)
 
+-- each byte is from 0x21 to 0x7E and none is `%`, so that each stands for itself
+abbrev pub is_plain : List ℕ → Bool
+is_plain = list_all (λ b. is_ascii_graphic b && not (b == 37))
+
 -- the bytes that a word stands for as a name or a text: one or more from 0x21 to 0x7E
 unfoldable pub text_of : List ℕ → Option (List ℕ)
 text_of word = if not (length word == 0) && list_all is_ascii_graphic word then Some (unescaped word) else None

@@ -2,15 +2,22 @@ ghost use Rattle.std.specs.Prelude.{◌≡◌, ◌+◌, ◌≤◌, ◌<◌, List
 ghost use Rattle.std.specs.List.{list_all};
 ghost use Rattle.std.specs.Char.{is_ascii_graphic};
 ghost use Rattle.std.specs.Option.{option_copied};
-ghost use Rattle.call_script.specs.Texts.{text_of, hex_byte_of, unescaped};
+ghost use Rattle.call_script.specs.Texts.{text_of, hex_byte_of, unescaped, is_plain as the_plain};
 
 /// The bytes that a word stands for as a name or a text.
-#[tactic(auto, unfolding(crate::specs::Texts::text_of))]
+#[tactic(auto, unfolding(crate::specs::Texts::text_of), using(crate::proofs::Plain::plain_text))]
 pub(crate) fn parse_text<'a>(word: &[u8], scratch: &'a mut [u8]) -> Option<&'a [u8]>
     requires { length word.now ≤ length scratch.old }
     ensures { option_copied result ≡ text_of word.now }
 {
-    if word.is_empty() || !is_graphic(word) {
+    if word.is_empty() {
+        return None;
+    }
+    if is_plain(word) {
+        let length = copy(word, scratch);
+        return Some(&scratch[..length]);
+    }
+    if !is_graphic(word) {
         return None;
     }
     let length = unescape(word, scratch);
@@ -22,6 +29,23 @@ fn is_graphic(word: &[u8]) -> bool
     ensures { result ≡ list_all is_ascii_graphic word.now }
 {
     word.iter().all(|b| b.is_ascii_graphic())
+}
+
+// Whether each byte is one of these, and none is an escape's first: most texts are so, and are looked at once.
+fn is_plain(word: &[u8]) -> bool
+    ensures { result ≡ the_plain word.now }
+{
+    word.iter().all(|b| b.is_ascii_graphic() && *b != b'%')
+}
+
+// Puts the bytes of a text at the front of `into`.
+fn copy(word: &[u8], into: &mut [u8]) -> usize
+    requires { length word.now ≤ length into.old }
+    ensures fits { result ≤ length into.new }
+    ensures same { take result into.new ≡ word.now }
+{
+    into[..word.len()].copy_from_slice(word);
+    word.len()
 }
 
 // Puts the bytes that a text stands for at the front of `into`.

@@ -25,7 +25,7 @@ use geometry::Geometry;
 use nor_core::{Board, Failed, Nor, NorState};
 use tool_parts::{Buffers, Ending, begin, conclude};
 use vol_copy::copy_all;
-use vol_mount::{Lent, Reader};
+use vol_mount::{Lent, Reader, ReaderLent};
 use volume::Volume;
 
 // Checks the target, and copies the files of the mounted source onto it.
@@ -34,10 +34,12 @@ fn copy_files<N: Nor, B: Board>(
     from: &mut Reader<'_, N>,
     to: &mut Volume<'_, B>,
     piece: &mut [u8],
+    marks: &mut [u8],
 ) -> Result<Copied, Ending>
     requires writable { write_refusal to.old.geometry ≡ None }
     requires slots { 1 ≤ length to.old.slots.now }
     requires piece { 4096 ≤ length piece.old }
+    requires marks { check_need to.old.geometry ≤ length marks.old }
     ensures later { IfErr result (λ ending. IsLaterStatus (status_of ending)) }
     ensures among { IfErr result MayEndCopy }
     ensures reads { OnlyReads N.NorState from.old.nor.now from.new.nor.now }
@@ -53,7 +55,7 @@ fn copy_files<N: Nor, B: Board>(
     ensures kept { B.tells to.old.nor.now → (ending : TheEnding) → check_refusal to.old.geometry (B.bytes to.old.nor.now) ≡ Some ending →
         OnlyReads B.NorState to.old.nor.now to.new.nor.now }
 {
-    if let Err(ending) = begin(to) {
+    if let Err(ending) = begin(to, marks) {
         return Err(ending);
     }
     match copy_all(from, to, piece) {
@@ -69,10 +71,12 @@ fn copy_volumes<N: Nor, B: Board>(
     from: &mut Reader<'_, N>,
     to: &mut Volume<'_, B>,
     line: &mut [u8],
+    marks: &mut [u8],
 ) -> Ending
     requires writable { write_refusal to.old.geometry ≡ None }
     requires slots { 1 ≤ length to.old.slots.now }
     requires line { 12288 ≤ length line.old }
+    requires marks { check_need to.old.geometry ≤ length marks.old }
     ensures later { IsLaterStatus (status_of result) }
     ensures among { MayEndCopy result }
     ensures reads { OnlyReads N.NorState from.old.nor.now from.new.nor.now }
@@ -86,7 +90,7 @@ fn copy_volumes<N: Nor, B: Board>(
         Ok(damaged) => damaged,
         Err(ending) => return ending,
     };
-    let copied = match copy_files(from, to, line) {
+    let copied = match copy_files(from, to, line, marks) {
         Ok(copied) => copied,
         Err(ending) => return ending,
     };
@@ -100,10 +104,11 @@ fn copy_volumes<N: Nor, B: Board>(
 fn copy_boards<'a, 'b, N: Nor, B: Board>(
     plan: CopyPlan,
     source: &'a mut N,
-    source_lent: Lent<'a>,
+    source_lent: ReaderLent<'a>,
     board: &'b mut B,
     lent: Lent<'b>,
     line: &mut [u8],
+    marks: &mut [u8],
 ) -> Ending
     requires source_fits { HoldsVolume plan.source (N.unit source.old) (N.size source.old) }
     requires source_work { work_need plan.source ≤ length source_lent.work.now }
@@ -113,7 +118,8 @@ fn copy_boards<'a, 'b, N: Nor, B: Board>(
     requires work { work_need plan.target ≤ length lent.work.now }
     requires slots { 1 ≤ length lent.slots.now }
     requires cache { cache_need plan.target ≤ length lent.cache.now }
-    requires check { check_need plan.target ≤ length lent.check.now }
+    requires window { plan.target.page ≤ length lent.window.now }
+    requires marks { check_need plan.target ≤ length marks.old }
     requires line { 12288 ≤ length line.old }
     ensures later { IsLaterStatus (status_of result) }
     ensures among { MayEndCopy result }
@@ -127,7 +133,7 @@ fn copy_boards<'a, 'b, N: Nor, B: Board>(
 {
     let mut from = Reader::new(plan.source, source, source_lent);
     let mut to = Volume::new(plan.target, board, lent);
-    copy_volumes(&mut from, &mut to, line)
+    copy_volumes(&mut from, &mut to, line, marks)
 }
 
 /// Copies the files of the volume of one device onto that of another, each in its lent memory, and says how many were copied.
@@ -149,9 +155,8 @@ pub(crate) fn copy_on<N: Nor, B: Board>(
     ensures source_fault { result ≡ 18 → Rose (N.faults source.old) (N.faults source.new) }
     ensures does { DoesCopy N.NorState B.NorState plan.source plan.target (length source_bufs.old.cache.now) (length bufs.old.cache.now) source.old source.new board.old board.new result }
 {
-    let source_lent = Lent {
+    let source_lent = ReaderLent {
         work: &mut *source_bufs.work,
-        slots: &mut *source_bufs.slots,
         cache: &mut *source_bufs.cache,
         check: &mut *source_bufs.check,
     };
@@ -159,8 +164,16 @@ pub(crate) fn copy_on<N: Nor, B: Board>(
         work: &mut *bufs.work,
         slots: &mut *bufs.slots,
         cache: &mut *bufs.cache,
-        check: &mut *bufs.check,
+        window: &mut *bufs.window,
     };
-    let ending = copy_boards(plan, source, source_lent, board, lent, bufs.line);
+    let ending = copy_boards(
+        plan,
+        source,
+        source_lent,
+        board,
+        lent,
+        bufs.line,
+        bufs.check,
+    );
     conclude(board, ending)
 }

@@ -23,6 +23,7 @@ use Rattle.call_model.specs.Parts.{IsPartEnd}
 use Rattle.call_model.proofs.Parts.{steps-among, whole-table, written_next, put_twice}
 use Rattle.call_model.proofs.Tables.{file_of-put, file_of-id}
 use Rattle.flash_view.specs.declared.view.View.{View}
+use Rattle.flash_view.specs.Same.{OnlyLooks}
 use Rattle.flash_view.specs.Steps.{Step, Stepped, Finishes}
 use Rattle.flash_view.proofs.Stepped.{stepped_then}
 use Rattle.file_calls.specs.Collecting.{MayStop, refusing}
@@ -208,6 +209,14 @@ module _ {N : Type 0} {nor : NorOf N} {old mid new : View N nor} {r : Result (Un
 -- the size that is told is that of the file
 pub told_size : (id : ℕ) (files : List File) (stat : Stat) (f : File) → TellsRecord id files (Ok stat) → file_of id files ≡ Some f → stat.size ≡ length f.bytes
 told_size id files stat f told there = let is : Some stat ≡ Some (stat_of f) = told ∙ ap (option_map stat_of) there in let same : stat ≡ stat_of f = cc in ap (λ (s : Stat). s.size) same
+
+-- also where it was told before other looks
+pub sized_after : {N : Type 0} {nor : NorOf N} {old mid : View N nor} (id at : ℕ) (bytes : List ℕ) (stat : Stat) (f : File) → OnlyLooks old mid →
+    (nor.tells old.nor.now → IsTidy old.geometry (nor.bytes old.nor.now) → TellsRecord id (table_of old.geometry (nor.bytes old.nor.now)) (Ok stat)) →
+    nor.tells mid.nor.now → CanWrite mid.geometry (nor.bytes mid.nor.now) id at bytes f → stat.size ≡ length f.bytes
+sized_after {nor = nor} {old = old} id at bytes stat f looks told tells can =
+    let was : CanWrite old.geometry (nor.bytes old.nor.now) id at bytes f = rw (looks.same.geometry, looks.reads.bytes) at can in
+    told_size id (table_of old.geometry (nor.bytes old.nor.now)) stat f (told (looks.reads.told_before tells) was.tidy) was.there
 
 -- where it can't be told the device failed
 pub missed_stops : (why : FsErr) → MayMiss why → MayStop why

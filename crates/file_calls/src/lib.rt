@@ -26,4 +26,4 @@ pub use room::have_room;
 pub use slots::{opened, tell_in};
 pub use space::{Space, space_of};
 pub use told::Told;
-pub use writing::write_all;
+pub use writing::{write_all, write_sized};

@@ -8,7 +8,7 @@ ghost use Rattle.flash_view.specs.Steps.{Stepped};
 ghost use Rattle.file_calls.specs.Collecting.{refusing};
 ghost use Rattle.file_write.specs.Appends.{index_needed as the_index_needed};
 ghost use Rattle.file_write.specs.Readyings.{HasReadyTail};
-ghost use Rattle.file_calls.specs.Writings.{writing_part, writing, having_tail};
+ghost use Rattle.file_calls.specs.Writings.{CanWrite, writing_part, writing, having_tail};
 
 use crate::collecting::take_pages;
 use crate::reading::record_of;
@@ -119,12 +119,17 @@ fn end_of(at: u32, len: usize) -> Option<u32>
     at.checked_add(u32::try_from(len).ok()?)
 }
 
-/// Writes bytes into a file from a place inside it or at its end, in one page step for each part: where the data pages end, at the old end
-/// of the file, and at the end of the write. Where they can be written, a fault of the device is the one error.
-pub fn write_all<N: Nor>(v: &mut View<'_, N>, id: u16, at: u32, bytes: &[u8]) -> Result<(), FsErr>
-    ensures { (f : File) → Stepped refusing v.old v.new result (writing id at bytes.now f) }
+/// Writes bytes into a file of that size in bytes, from a place inside it or at its end, in one page step for each part: where the data pages
+/// end, at the old end of the file, and at the end of the write. Where they can be written, a fault of the device is the one error.
+pub fn write_sized<N: Nor>(
+    v: &mut View<'_, N>,
+    id: u16,
+    size: u32,
+    at: u32,
+    bytes: &[u8],
+) -> Result<(), FsErr>
+    ensures { (f : File) → (N.tells v.old.nor.now → CanWrite v.old.geometry (N.bytes v.old.nor.now) id at bytes.now f → size ≡ length f.bytes) → Stepped refusing v.old v.new result (writing id at bytes.now f) }
 {
-    let size = record_of(v, id)?.size;
     let Some(end) = end_of(at, bytes.len()) else {
         return Err(FsErr::Damaged(no_header(id)));
     };
@@ -136,4 +141,12 @@ pub fn write_all<N: Nor>(v: &mut View<'_, N>, id: u16, at: u32, bytes: &[u8]) ->
         from = to;
     }
     Ok(())
+}
+
+/// Writes bytes into a file as `write_sized` does, once its size is looked up.
+pub fn write_all<N: Nor>(v: &mut View<'_, N>, id: u16, at: u32, bytes: &[u8]) -> Result<(), FsErr>
+    ensures { (f : File) → Stepped refusing v.old v.new result (writing id at bytes.now f) }
+{
+    let size = record_of(v, id)?.size;
+    write_sized(v, id, size, at, bytes)
 }

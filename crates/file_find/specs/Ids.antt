@@ -21,7 +21,7 @@ pub record Notes (start : ℕ) (found : Option ℕ) (old new : List ℕ) : Type 
 
 -- the number that a name is noted with, behind those of ids
 unfoldable pub name_number : List ℕ → ℕ
-name_number name = 0x8000 + fold (λ h b. (31 * h + b) % 0x8000) 0 name
+name_number name = 0x8000 + fold (λ h b. (101 * h + b) % 0x8000) 0 name
 
 -- nothing but names is noted beside what was
 pub record NotesNames (start : ℕ) (old new : List ℕ) : Type 0 where

@@ -56,7 +56,7 @@ fn name_number(name: &[u8]) -> u16
 {
     let mut hash = 0u32;
     for &byte in name {
-        hash = (31 * hash + u32::from(byte)) % 0x8000;
+        hash = (101 * hash + u32::from(byte)) % 0x8000;
     }
     0x8000 + hash as u16
 }

@@ -9,4 +9,4 @@ mod windows;
 
 pub use judging::judge;
 pub use listing::{find_file, next_damaged, next_file};
-pub use marks::{damage, find_name, next_marked, survey};
+pub use marks::{damage, find_name, next_marked, next_with, survey};

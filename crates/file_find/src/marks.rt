@@ -320,8 +320,8 @@ fn holder_below<N: Nor>(
     Ok(None)
 }
 
-// The first page from `from` on and below `end` that has this mark. Many marks are looked at at once.
-fn next_with(marks: &[u8], sought: u8, from: u16, end: u16) -> Option<u16>
+/// The first page from `from` on and below `end` that has this mark, a byte for each page. Many marks are looked at at once.
+pub fn next_with(marks: &[u8], sought: u8, from: u16, end: u16) -> Option<u16>
     requires ordered { from ≤ end }
     requires room { end ≤ length marks.now }
     ensures { NextMark marks.now sought from end result }

@@ -1,7 +1,7 @@
 -- What the looks at the tail of a file tell.
 use Rattle.std.proofs.Common.{◌≡◌, ℕ, ◌+◌, ◌-◌, ◌/◌, ◌%◌, ◌<◌, ◌≤◌, List, length, drop, get_or, slice_index, Bool, true, false, ◌==◌, Some, None, ap, sym, ◌∙◌, arith, subst, ⊎_elim, length-drop}
 use Rattle.std.specs.Prelude.{option_and_then, Result, Ok, Err, IfOk}
-use Rattle.std.specs.Bool.{OnTrue}
+use Rattle.std.specs.Bool.{OnTrue, OnFalse}
 use Rattle.nor_core.specs.declared.device.Failed.{Failed}
 use Rattle.std.proofs.lemmas.Bool.{cases_eq, ne_eqb, le-ltb}
 use Rattle.std.proofs.lemmas.List.{get_or-drop}
@@ -25,7 +25,7 @@ use Rattle.renew_laws.proofs.Spans.{page_named}
 use Rattle.flash_view.specs.DataPages.{data_number, data_number_of}
 use Rattle.page_renew.specs.declared.finding.Found.{Found}
 use Rattle.page_renew.specs.Renewals.{IsHome}
-use Rattle.file_write.specs.Readyings.{HasOnes, IsStale}
+use Rattle.file_write.specs.Readyings.{HasOnes, HasOther, IsStale}
 use Rattle.file_write.proofs.LastPage.{named_by, number_there}
 
 -- a byte of an erased list
@@ -75,6 +75,19 @@ ones_clean g image id size h head at header told ones z more there k low high =
     let same : named.z ≡ z = same_Some named.z z (sym (page_named g (own (live_at g image) id) head (size_of head / body g) n.0 named.z named.entry named.is named.kind named.span) ∙ there) in
     let byte : slice_index (page_of g image n.0) k ≡ 0xFF = subst (λ (m : ℕ). HasOnes g image id m) told ones n.0 more number k low high in
     ap (λ (l : List ℕ). slice_index l k) (sym ((live_parts g image n.0 named.z live).bytes ∙ same)) ∙ byte
+
+-- an id without a header page has no data page
+none_named : (g : Geometry) (image : List ℕ) (id t q : ℕ) → index_page g (own (live_at g image) id) 0 ≡ None → data_number_of g image id t ≡ Some q → ⊥
+unfolding data_number_of
+none_named g image id t q none number = let no : None ≡ Some q = rw none at number in absurd (cc)
+
+pub ones_none : (g : Geometry) (image : List ℕ) (id size : ℕ) → index_page g (own (live_at g image) id) 0 ≡ None → (clean : Bool) → OnTrue clean (HasOnes g image id size)
+ones_none g image id size none true = λ q more number k low high. absurd (none_named g image id (size / body g) q none number)
+ones_none g image id size none false = tt
+
+pub other_none : (g : Geometry) (image : List ℕ) (id size : ℕ) → index_page g (own (live_at g image) id) 0 ≡ None → (clean : Bool) → OnFalse clean (HasOther g image id size)
+other_none g image id size none true = tt
+other_none g image id size none false = λ q number inside few. absurd (none_named g image id (size / body g) q none number)
 
 -- ---- the entry behind the last
 

@@ -1,7 +1,9 @@
 // Bytes that end in the last data page of a file.
-ghost use Rattle.std.specs.Prelude.{◌≡◌, ◌+◌, ◌%◌, ◌<◌, ◌≤◌, OnErr, IfOk, IfSome, length};
+ghost use Rattle.std.specs.Prelude.{◌≡◌, ◌+◌, ◌%◌, ◌<◌, ◌≤◌, OnErr, IfOk, IfSome, Some, length};
 ghost use Rattle.geometry.specs.Numbers.{body, page_count};
 ghost use Rattle.nor_core.specs.Count.{Rose};
+ghost use Rattle.image_model.specs.Files.{index_page};
+ghost use Rattle.image_model.specs.Live.{live_at, own};
 ghost use Rattle.image_model.specs.Tidy.{IsTidy};
 ghost use Rattle.flash_view.specs.Places.{IsEntryPage};
 ghost use Rattle.flash_view.specs.Same.{OnlyLooks};
@@ -10,27 +12,33 @@ ghost use Rattle.table_model.specs.Table.{File};
 ghost use Rattle.file_write.specs.Appends.{IsLast, filling_at, appending_at};
 
 use crate::create::missing;
-use crate::seeking::seek_data;
+use crate::seeking::data_by;
 use flash_view::{StepErr, View};
 use nor_core::{Failed, Nor, NorState};
 use page_layout::BODY_AT;
 use page_put::fill_tail;
 use page_renew::{Edit, Found, renew_from};
 
-// The last data page of a file of that size of a tidy image, which ends inside it.
+// The last data page of a file of that size of a tidy image, which ends inside it, by the file's header page.
 #[tactic(auto, using(flash_view::proofs::Looking::looks_then))]
-fn last_page<N: Nor>(v: &mut View<'_, N>, id: u16, size: u32) -> Result<Option<u16>, Failed>
+fn last_page<N: Nor>(
+    v: &mut View<'_, N>,
+    id: u16,
+    header: u16,
+    size: u32,
+) -> Result<Option<u16>, Failed>
+    requires { header < page_count v.old.geometry }
     ensures cause { OnErr result (Rose (N.faults v.old.nor.now) (N.faults v.new.nor.now)) }
     ensures looks { OnlyLooks v.old v.new }
     ensures inside { IfOk result (λ found. IfSome found (λ page. page < page_count v.old.geometry)) }
-    ensures told { N.tells v.old.nor.now → IsTidy v.old.geometry (N.bytes v.old.nor.now) → IfOk result (λ found. IsLast v.old.geometry (N.bytes v.old.nor.now) id size found) }
+    ensures told { N.tells v.old.nor.now → IsTidy v.old.geometry (N.bytes v.old.nor.now) → index_page v.old.geometry (own (live_at v.old.geometry (N.bytes v.old.nor.now)) id) 0 ≡ Some header → IfOk result (λ found. IsLast v.old.geometry (N.bytes v.old.nor.now) id size found) }
 {
     let g = v.geometry;
     let span = size / g.body();
     if span > 0xFFFF {
         return Ok(None);
     }
-    match seek_data(v, id, span as u16)? {
+    match data_by(v, id, header, span as u16)? {
         Some(page) if u32::from(page) < g.pages() => Ok(Some(page)),
         _ => Ok(None),
     }
@@ -76,7 +84,7 @@ pub(crate) fn append_inside<N: Nor>(
     requires used { 0 < found.size % body v.old.geometry }
     ensures { (f : File) → Stepped stopped v.old v.new result (appending_at id found.header found.size from.now f) }
 {
-    match last_page(v, id, found.size) {
+    match last_page(v, id, found.header, found.size) {
         Err(Failed) => Err(StepErr::DeviceFault),
         Ok(None) => Err(StepErr::Damaged(missing(id))),
         Ok(Some(page)) => fill_last(v, id, found, page, end, from),

@@ -1,7 +1,8 @@
 // Where the data pages of a file of a tidy image are.
-ghost use Rattle.std.specs.Prelude.{◌≡◌, ◌<◌, ◌^◌, OnErr, IfOk};
+ghost use Rattle.std.specs.Prelude.{◌≡◌, ◌<◌, ◌^◌, OnErr, IfOk, Some};
 ghost use Rattle.geometry.specs.Numbers.{page_count};
 ghost use Rattle.nor_core.specs.Count.{Rose};
+ghost use Rattle.image_model.specs.Files.{index_page};
 ghost use Rattle.image_model.specs.Live.{live_at, own};
 ghost use Rattle.image_model.specs.Places.{page_of};
 ghost use Rattle.image_model.specs.Tidy.{IsTidy};
@@ -38,6 +39,21 @@ fn named_data<N: Nor>(
     }
 }
 
+/// The data page of a span of an id by its header page, in a tidy image as `find_data` gives it.
+pub(crate) fn data_by<N: Nor>(
+    v: &mut View<'_, N>,
+    id: u16,
+    header: u16,
+    span: u16,
+) -> Result<Option<u16>, Failed>
+    requires { header < page_count v.old.geometry }
+    ensures cause { OnErr result (Rose (N.faults v.old.nor.now) (N.faults v.new.nor.now)) }
+    ensures looks { OnlyLooks v.old v.new }
+    ensures told { N.tells v.old.nor.now → IsTidy v.old.geometry (N.bytes v.old.nor.now) → index_page v.old.geometry (own (live_at v.old.geometry (N.bytes v.old.nor.now)) id) 0 ≡ Some header → IfOk result (λ page. page ≡ data_number_of v.old.geometry (N.bytes v.old.nor.now) id span) }
+{
+    named_data(v, id, header, u32::from(span))
+}
+
 /// The data page of a span of an id, in a tidy image as `find_data` gives it: the index pages that lead there are looked for
 /// where they were noted.
 #[tactic(auto, using(flash_view::proofs::Looking::looks_then))]
@@ -51,7 +67,7 @@ pub(crate) fn seek_data<N: Nor>(
     ensures told { N.tells v.old.nor.now → IsTidy v.old.geometry (N.bytes v.old.nor.now) → IfOk result (λ page. page ≡ data_number_of v.old.geometry (N.bytes v.old.nor.now) id span) }
 {
     match v.seek_header(id)? {
-        Some(header) => named_data(v, id, header, u32::from(span)),
+        Some(header) => data_by(v, id, header, span),
         None => Ok(None),
     }
 }

@@ -1,9 +1,11 @@
 // The tail of a file: bytes of its last data page past the size, and the entry behind its last.
-ghost use Rattle.std.specs.Prelude.{◌≡◌, ◌%◌, ◌<◌, ◌≤◌, ◌↔◌, ℕ, OnErr, IfOk, IfSome, drop, true};
+ghost use Rattle.std.specs.Prelude.{◌≡◌, ◌%◌, ◌<◌, ◌≤◌, ◌↔◌, ℕ, OnErr, IfOk, IfSome, Some, drop, true};
 ghost use Rattle.std.specs.Bool.{OnTrue, OnFalse};
 ghost use Rattle.geometry.specs.Numbers.{body, page_count};
 ghost use Rattle.nor_core.specs.Count.{Rose};
 ghost use Rattle.table_model.specs.Table.{has_id};
+ghost use Rattle.image_model.specs.Files.{index_page};
+ghost use Rattle.image_model.specs.Live.{live_at, own};
 ghost use Rattle.image_model.specs.Places.{page_of};
 ghost use Rattle.image_model.specs.Tables.{table_of};
 ghost use Rattle.image_model.specs.Tidy.{IsTidy, is_erased as the_erased};
@@ -12,7 +14,7 @@ ghost use Rattle.flash_view.specs.Places.{IsEntryPage};
 ghost use Rattle.flash_view.specs.Same.{OnlyLooks};
 ghost use Rattle.file_write.specs.Readyings.{HasOnes, HasOther, IsStale, IsTaken};
 
-use crate::seeking::seek_data;
+use crate::seeking::data_by;
 use flash_view::{View, is_entry_page};
 use nor_core::{Failed, Nor, NorState};
 use page_layout::{BODY_AT, data_pages, entry_place, wide_index_span};
@@ -42,7 +44,35 @@ fn ends_in_ones<N: Nor>(v: &mut View<'_, N>, page: u16, from: u32) -> Result<boo
     Ok(are_ones(&v.held(page)[from as usize..]))
 }
 
-// Whether the bytes of the last data page of a file of that size past the size are 0xFF, in a tidy image.
+// Whether the bytes of the last data page of a file of that size past the size are 0xFF, in a tidy image, by the file's header page.
+#[tactic(auto, using(flash_view::proofs::Looking::looks_then))]
+fn is_clean_by<N: Nor>(v: &mut View<'_, N>, id: u16, header: u16, size: u32) -> Result<bool, Failed>
+    requires { header < page_count v.old.geometry }
+    ensures cause { OnErr result (Rose (N.faults v.old.nor.now) (N.faults v.new.nor.now)) }
+    ensures looks { OnlyLooks v.old v.new }
+    ensures part { IfOk result (λ clean. OnFalse clean (0 < size % body v.old.geometry)) }
+    ensures told { N.tells v.old.nor.now → IsTidy v.old.geometry (N.bytes v.old.nor.now) → index_page v.old.geometry (own (live_at v.old.geometry (N.bytes v.old.nor.now)) id) 0 ≡ Some header → IfOk result (λ clean. OnTrue clean (HasOnes v.old.geometry (N.bytes v.old.nor.now) id size)) }
+    ensures other { N.tells v.old.nor.now → IsTidy v.old.geometry (N.bytes v.old.nor.now) → index_page v.old.geometry (own (live_at v.old.geometry (N.bytes v.old.nor.now)) id) 0 ≡ Some header → IfOk result (λ clean. OnFalse clean (HasOther v.old.geometry (N.bytes v.old.nor.now) id size)) }
+{
+    let g = v.geometry;
+    let used = size % g.body();
+    if used == 0 {
+        return Ok(true);
+    }
+    let span = size / g.body();
+    if span > 0xFFFF {
+        return Ok(false);
+    }
+    let Some(page) = data_by(v, id, header, span as u16)? else {
+        return Ok(false);
+    };
+    if u32::from(page) >= g.pages() {
+        return Ok(false);
+    }
+    ends_in_ones(v, page, BODY_AT + used)
+}
+
+// The same where the header page is looked for.
 #[tactic(auto, using(flash_view::proofs::Looking::looks_then))]
 pub(crate) fn has_clean_bytes<N: Nor>(
     v: &mut View<'_, N>,
@@ -55,22 +85,10 @@ pub(crate) fn has_clean_bytes<N: Nor>(
     ensures told { N.tells v.old.nor.now → IsTidy v.old.geometry (N.bytes v.old.nor.now) → IfOk result (λ clean. OnTrue clean (HasOnes v.old.geometry (N.bytes v.old.nor.now) id size)) }
     ensures other { N.tells v.old.nor.now → IsTidy v.old.geometry (N.bytes v.old.nor.now) → IfOk result (λ clean. OnFalse clean (HasOther v.old.geometry (N.bytes v.old.nor.now) id size)) }
 {
-    let g = v.geometry;
-    let used = size % g.body();
-    if used == 0 {
-        return Ok(true);
+    match v.seek_header(id)? {
+        Some(header) => is_clean_by(v, id, header, size),
+        None => Ok(size % v.geometry.body() == 0),
     }
-    let span = size / g.body();
-    if span > 0xFFFF {
-        return Ok(false);
-    }
-    let Some(page) = seek_data(v, id, span as u16)? else {
-        return Ok(false);
-    };
-    if u32::from(page) >= g.pages() {
-        return Ok(false);
-    }
-    ends_in_ones(v, page, BODY_AT + used)
 }
 
 // The further index page with the entry of the span behind the last of a file of that size, where that entry isn't 0xFFFF, in a
@@ -110,10 +128,10 @@ pub fn is_tail_ready<N: Nor>(v: &mut View<'_, N>, id: u16) -> Result<bool, Faile
     ensures looks { OnlyLooks v.old v.new }
     ensures told { N.tells v.old.nor.now → IsTidy v.old.geometry (N.bytes v.old.nor.now) → has_id id (table_of v.old.geometry (N.bytes v.old.nor.now)) ≡ true → IfOk result (λ ready. (ready ≡ true) ↔ IsTailReady v.old.geometry (N.bytes v.old.nor.now) id) }
 {
-    let Some(Found { size, .. }) = find_home(v, id)? else {
+    let Some(Found { header, size }) = find_home(v, id)? else {
         return Ok(false);
     };
-    if !has_clean_bytes(v, id, size)? {
+    if !is_clean_by(v, id, header, size)? {
         return Ok(false);
     }
     let stale = stale_index(v, id, size)?;

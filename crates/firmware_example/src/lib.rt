@@ -11,19 +11,20 @@ use geometry::{Geometry, MagicKind};
 use nor_core::{Nor, NorState};
 use table_model::{FsErr, Info};
 pub use trouble::Trouble;
-use vol_mount::{Lent, accept};
+use vol_mount::{Lent, accept, accept_check};
 use volume::Volume;
 
 /// Sees that the file `boot` is on the chip, and answers how full the volume is. To be called when the device starts, and
-/// again after any fault: whatever a power cut left is put in order first.
-pub fn start<N: Nor>(chip: &mut N, lent: Lent<'_>) -> Result<Info, Trouble>
+/// again after any fault: whatever a power cut left is put in order first. The bytes of `marks` are wanted for that alone.
+pub fn start<N: Nor>(chip: &mut N, lent: Lent<'_>, marks: &mut [u8]) -> Result<Info, Trouble>
     ensures cause { IfErr result (λ why. tells_fault why ≡ true → Rose (N.faults chip.old) (N.faults chip.new)) }
 {
     let g = Geometry::new(256, 4096, 16, 4096, 0, MagicKind::Length)?;
     accept(&g, chip, &lent)?;
+    accept_check(&g, marks)?;
     let mut volume = Volume::new(g, chip, lent);
     volume.mount()?;
-    volume.check()?;
+    volume.check(marks)?;
     match volume.create(b"boot") {
         Ok(()) | Err(FsErr::ConflictingName) => {}
         Err(why) => return Err(Trouble::Call(why)),
@@ -54,14 +55,15 @@ mod tests {
         let mut work = [0u8; 2048];
         let mut slots = [FdSlot::empty()];
         let mut cache = [0u8; 1024];
-        let mut check = [0u8; 16384];
+        let mut window = [0u8; 256];
+        let mut marks = [0u8; 8448];
         let lent = Lent {
             work: &mut work,
             slots: &mut slots,
             cache: &mut cache,
-            check: &mut check,
+            window: &mut window,
         };
-        start(board, lent)
+        start(board, lent, &mut marks)
     }
 
     #[test]

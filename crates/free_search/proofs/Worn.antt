@@ -1,7 +1,8 @@
 -- The least worn free block of those below a loop's counter.
-use Rattle.std.proofs.Common.{◌≡◌, ◌≢◌, ℕ, zero, suc, ◌+◌, ◌<◌, ◌≤◌, ⊎_elim, inl, inr, ◌⊎◌, List, Bool, true, false, ◌&&◌, nat_le, refl, sym, ap, arith, subst, if◌then◌else◌}
+use Rattle.std.proofs.Common.{◌≡◌, ◌≢◌, ℕ, zero, suc, ◌+◌, ◌<◌, ◌≤◌, ⊎_elim, inl, inr, ◌⊎◌, List, Bool, true, false, ◌&&◌, nat_le, refl, sym, ◌∙◌, ap, arith, subst, if◌then◌else◌}
 use Rattle.std.specs.Prelude.{Option, Some, None}
 use Rattle.std.specs.Option.{option_map}
+use Rattle.std.proofs.lemmas.Option.{same_Some}
 use Rattle.std.proofs.lemmas.Bool.{cases_lt, cases_eq, le-leb, leb-true, leb-false, ne_eqb, eq-eqb, and_parts, false_from_ne_true}
 use Rattle.geometry.specs.declared.geometry.Geometry.{Geometry}
 use Rattle.image_model.specs.Places.{erase_count}
@@ -113,6 +114,19 @@ module _ (g : Geometry) (image : List ℕ) (not_in : Option ℕ) where
     where
       not_as_good : {m n : ℕ} → n < m → nat_le m n ≡ false
       not_as_good {m} {n} less = false_from_ne_true (nat_le m n) (λ yes. let most = leb-true _ _ yes in absurd (omega (arith, most, less)))
+
+  -- one that was never erased is the least worn of all blocks
+  pub worn_new : (end : ℕ) (least : Option Worn) → end ≤ g.blocks → option_map (λ worn. worn.erases) least ≡ Some 0 → WornBelow g image not_in end least → option_map (λ worn. worn.block) least ≡ the_least_worn g image not_in
+  worn_new end None low none is = absurd (cc)
+  worn_new end (Some s) low none is =
+      let e : erase_count g image s.block ≡ 0 = sym is.erases ∙ same_Some s.erases 0 none in
+      worn_all g.blocks (Some s) refl (record {
+        below = omega (arith, low, is.below);
+        passes = is.passes;
+        erases = is.erases;
+        least = λ b below ok. omega (arith, e);
+        first = is.first;
+      })
 
   -- there is one, or no free block may be chosen
   walk : (n : ℕ) → (least : Option Worn) × WornBelow g image not_in n least

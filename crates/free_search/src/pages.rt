@@ -1,4 +1,6 @@
-ghost use Rattle.std.specs.Prelude.{◌≡◌, ◌+◌, ◌<◌, ◌≤◌, ◌*◌, ℕ, List, IfOk, IfSome, is_some, length, true, false};
+ghost use Rattle.std.specs.Prelude.{◌≡◌, ◌+◌, ◌<◌, ◌≤◌, ◌*◌, ℕ, List, IfOk, IfSome, Some, is_some, length, true, false};
+ghost use Rattle.std.specs.Bool.{OnTrue};
+ghost use Rattle.std.specs.Option.{option_map};
 ghost use Rattle.geometry.specs.Numbers.{lookups, entries as the_entries};
 ghost use Rattle.flash_view.specs.Table.{IsTable};
 ghost use Rattle.flash_view.specs.Places.{IsEntryPage};
@@ -135,7 +137,17 @@ fn less_worn_row(rows: &[u8], entries: u32, least: Option<Worn>, block: u16) -> 
     }
 }
 
-// The free block that was erased least often, by the rows of so many blocks.
+// Whether the block so far was never erased, so that none is less worn.
+fn is_unworn(least: Option<Worn>) -> bool
+    ensures { OnTrue result (option_map (λ worn. worn.erases) least ≡ Some 0) }
+{
+    match least {
+        Some(worn) => worn.erases == 0,
+        None => false,
+    }
+}
+
+// The free block that was erased least often, by the rows of so many blocks. (Those behind one that was never erased aren't looked at.)
 fn least_by_rows(rows: &[u8], entries: u32, blocks: u16, not_in: Option<u16>) -> Option<u16>
     requires { 16 * blocks ≤ length rows.now }
     ensures below { IfSome result (λ block. block < blocks) }
@@ -143,6 +155,9 @@ fn least_by_rows(rows: &[u8], entries: u32, blocks: u16, not_in: Option<u16>) ->
 {
     let mut least = None;
     for block in 0..blocks {
+        if is_unworn(least) {
+            return least.map(|worn| worn.block);
+        }
         if Some(block) != not_in {
             least = less_worn_row(rows, entries, least, block);
         }

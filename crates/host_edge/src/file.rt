@@ -7,6 +7,9 @@ use std::os::unix::fs::FileExt;
 /// How many bytes of a file are kept, and are erased at a time.
 const WINDOW: usize = 4096;
 
+// As many erased bytes.
+static BLANK: [u8; WINDOW] = [0xFF; WINDOW];
+
 /// A piece of a file as it stands there, and the file's length, so that the host is asked for them once. Nothing but this
 /// may write to the file meanwhile.
 #[derive(Drop)]
@@ -48,11 +51,10 @@ fn read_whole(file: &File, at: u64, into: &mut [u8]) -> io::Result<()> {
 
 // Appends 0xFF to the file from its end on until it reaches a place. Answers how long the file is then.
 fn append_blank(file: &File, end: u64, at: u64) -> io::Result<u64> {
-    let blank = [0xFFu8; WINDOW];
     let mut end = end;
     while end < at {
         let piece = (at - end).min(WINDOW as u64);
-        file.write_all_at(&blank[..piece as usize], end)?;
+        file.write_all_at(&BLANK[..piece as usize], end)?;
         end += piece;
     }
     Ok(end)
@@ -148,12 +150,11 @@ impl Window {
     pub(crate) fn erase_at(&mut self, file: &File, at: u64, count: u32) -> io::Result<()>
         requires { at + count < 2 ^ 64 }
     {
-        let blank = [0xFFu8; WINDOW];
         self.start = None;
         let mut done = 0;
         while done < count {
             let piece = (count - done).min(WINDOW as u32);
-            self.write_at(file, at + u64::from(done), &blank[..piece as usize])?;
+            self.write_at(file, at + u64::from(done), &BLANK[..piece as usize])?;
             done += piece;
         }
         Ok(())

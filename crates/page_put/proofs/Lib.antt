@@ -1,5 +1,6 @@
 pub mod Recounted
 pub mod Changing
+pub mod Filled
 pub mod Bytes
 pub mod Finishing
 pub mod Placed

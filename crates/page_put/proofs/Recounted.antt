@@ -132,6 +132,22 @@ module _ (g : Geometry) where
       by Deleted some = omega (arith, most, had.deleted, some.deleted)
       by Free some = omega (arith, most, had.free, some.free)
 
+  -- one entry less and one more of the sort that a page counts as is what there was
+  pub one_again : (image : List ℕ) (p : ℕ) (s : Sort) (rows : List ℕ) → is_entry_page g p ≡ true → IsTable g image rows → s ≡ sort_at g image p → one_more (one_less (row_of rows (block_of g p)) s) s ≡ row_of rows (block_of g p)
+  one_again image p s rows page table is = by s (counted image p s page is)
+    where
+      had : AreCounts g image (block_of g p) (row_of rows (block_of g p))
+      had = table.counts (block_of g p) (block_number g p (page_number g p page))
+
+      row : BlockCounts
+      row = row_of rows (block_of g p)
+
+      by : (s : Sort) → Counted image p s → one_more (one_less row s) s ≡ row
+      by Index some = let e : row.index_live - 1 + 1 ≡ row.index_live = omega (arith, had.index, some.index) in rw e refl
+      by Data some = let e : row.data_live - 1 + 1 ≡ row.data_live = omega (arith, had.pages, some.pages) in rw e refl
+      by Deleted some = let e : row.deleted - 1 + 1 ≡ row.deleted = omega (arith, had.deleted, some.deleted) in rw e refl
+      by Free some = let e : row.free - 1 + 1 ≡ row.free = omega (arith, had.free, some.free) in rw e refl
+
   -- ---- the table once a page's entry counts otherwise
 
   module _ (p : ℕ) (page : is_entry_page g p ≡ true) (before after : Sort) (rows now : List ℕ) (w : WasCounted g p before rows now) (is : after ≡ sort_at g now p) (word : entry_of g now p < 0x10000) where

@@ -8,7 +8,7 @@ ghost use Rattle.image_model.specs.Files.{slot_at};
 ghost use Rattle.flash_view.specs.Same.{IsSameView};
 ghost use Rattle.page_put.specs.Recount.{IsUsedPage, StandsAgain};
 
-use crate::rows::{recount, sort_before};
+use crate::rows::{is_counted, recount, sort_before};
 use flash_view::View;
 use nor_core::{Failed, Nor, NorState};
 use page_layout::{Flags, entry_place};
@@ -33,11 +33,12 @@ pub fn mark_removed<N: Nor>(v: &mut View<'_, N>, page: u16) -> Result<(), Failed
 }
 
 /// Programs bytes behind those that a data page holds, in one program. `at` counts bytes from the page's first one, its
-/// header of 5 bytes included. The bytes from there on are to be erased, and past the size of the file.
+/// header of 5 bytes included, and is behind that. The bytes from there on are to be erased, and past the size of the file.
 #[tactic(auto, using(flash_view::proofs::Looking::same_then))]
 pub fn fill_tail<N: Nor>(v: &mut View<'_, N>, page: u16, at: u32, from: &[u8]) -> Result<(), Failed>
     requires page { page < page_count v.old.geometry }
     requires some { 0 < length from.now }
+    requires behind { 5 ≤ at }
     requires inside { at + length from.now ≤ v.old.geometry.page }
     ensures cause { OnErr result (Rose (N.faults v.old.nor.now) (N.faults v.new.nor.now)) }
     ensures same { IsSameView v.old v.new }
@@ -47,9 +48,10 @@ pub fn fill_tail<N: Nor>(v: &mut View<'_, N>, page: u16, at: u32, from: &[u8]) -
     ensures counted { IsUsedPage v.old.geometry (N.bytes v.old.nor.now) page → StandsAgain v.old v.new result }
     ensures few { N.device_writes v.new.nor.now ≤ N.device_writes v.old.nor.now + 1 }
 {
-    let before = sort_before(v, page);
+    let stands = is_counted(v, page);
     v.program_in(page, at, from)?;
-    recount(v, page, before?)
+    v.counted = stands?;
+    Ok(())
 }
 
 /// Names the data page of a span in the index page that has its entry, in one program of two bytes. The data span is

@@ -8,7 +8,7 @@ ghost use Rattle.page_put.specs.Kills.{HalfKilled, killed};
 ghost use Rattle.page_put.specs.LivePages.{killing, clearing};
 ghost use Rattle.page_put.specs.Recount.{OneChanges, StandsAgain};
 
-use crate::rows::{recount, sort_before};
+use crate::rows::{recount_dead, sort_before};
 use flash_view::View;
 use nor_core::{Failed, Nor, NorState};
 use page_layout::{DELETED, Flags};
@@ -45,7 +45,8 @@ fn program_kill<N: Nor>(v: &mut View<'_, N>, page: u16) -> Result<(), Failed>
 {
     let before = sort_before(v, page);
     program_dead(v, page)?;
-    recount(v, page, before?)
+    recount_dead(v, page, before?);
+    Ok(())
 }
 
 /// Kills a page: a program that clears DELET in its flags, and one that sets its entry to zero. Whatever the

@@ -18,6 +18,7 @@ pub struct Lends {
     pub slots: usize,
     pub cache: usize,
     pub check: usize,
+    pub window: usize,
     pub line: usize,
 }
 
@@ -73,6 +74,7 @@ pub(crate) struct Loan {
     slots: Vec<FdSlot>,
     cache: Vec<u8>,
     check: Vec<u8>,
+    window: Vec<u8>,
     line: Vec<u8>,
 }
 
@@ -84,6 +86,7 @@ impl Loan {
             slots: &mut self.slots,
             cache: &mut self.cache,
             check: &mut self.check,
+            window: &mut self.window,
             line: &mut self.line,
         }
     }
@@ -110,6 +113,7 @@ impl Bench {
                 slots: 3,
                 cache: (g.cache_need() as usize).saturating_mul(64),
                 check: g.check_need() as usize,
+                window: g.page() as usize,
                 line: 12288,
             },
         }
@@ -161,6 +165,7 @@ impl Bench {
             slots: vec![in self.alloc; FdSlot::empty(); self.lends.slots]?,
             cache: vec![in self.alloc; 0u8; self.lends.cache]?,
             check: vec![in self.alloc; 0u8; self.lends.check]?,
+            window: vec![in self.alloc; 0u8; self.lends.window]?,
             line: vec![in self.alloc; 0u8; self.lends.line]?,
         })
     }

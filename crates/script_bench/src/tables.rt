@@ -1,13 +1,12 @@
 //! What the plain programs and a reader tell of an image.
 use crate::{Bench, Trouble};
-use fd_table::FdSlot;
 use flat_plain::{Flat, PlainFile, Said};
 use geometry::Geometry;
 use image_plain::{Record, free_blocks, holds_volume, is_tidy, table_of};
 use nor_memory::MemBoard;
 use std::alloc::Global;
 use table_model::Stat;
-use vol_mount::{Lent, Reader, accept};
+use vol_mount::{Reader, ReaderLent, accept_reader};
 
 /// The files of an image, by the plain program.
 pub fn table(alloc: Global, g: &Geometry, image: &[u8]) -> Result<Vec<Record>, Trouble> {
@@ -56,16 +55,14 @@ pub fn listed(bench: &Bench, image: &[u8]) -> Result<Vec<Record>, Trouble> {
     let Bench { alloc, g, .. } = *bench;
     let mut board = bench.board(image)?;
     let mut work = vec![in alloc; 0u8; g.work_need() as usize]?;
-    let mut slots = vec![in alloc; FdSlot::empty(); 1]?;
     let mut cache = vec![in alloc; 0u8; g.cache_need() as usize]?;
     let mut check = vec![in alloc; 0u8; g.check_need() as usize]?;
-    let lent = Lent {
+    let lent = ReaderLent {
         work: &mut work,
-        slots: &mut slots,
         cache: &mut cache,
         check: &mut check,
     };
-    accept(&g, &board, &lent)?;
+    accept_reader(&g, &board, &lent)?;
     let mut reader = Reader::new(g, &mut board, lent);
     reader.mount()?;
     told(alloc, &mut reader)

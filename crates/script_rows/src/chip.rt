@@ -189,6 +189,7 @@ impl Chip {
                 "slots" => bench.lends.slots = given.min(0xFFFF),
                 "cache" => bench.lends.cache = given,
                 "check" => bench.lends.check = given,
+                "window" => bench.lends.window = given,
                 "line" => bench.lends.line = given,
                 _ => return Err(Trouble::Line),
             }

@@ -1,3 +1,4 @@
+pub mod FirstBreak
 pub mod Pieces
 pub mod LineWork
 pub mod OneLine

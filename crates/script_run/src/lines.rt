@@ -4,6 +4,7 @@ ghost use Rattle.std.specs.Option.{IfSome, IfNone};
 ghost use Rattle.nor_core.specs.Count.{Rose};
 ghost use Rattle.call_script.specs.Lines.{NoBreak};
 
+use memchr::memchr;
 use nor_core::{Failed, Source};
 
 /// Bytes of the longest line, without the one that ends it.
@@ -29,16 +30,12 @@ pub(crate) struct Lines<'l> {
     pub ghost counted: { handed + (end - start) ≤ taken },
 }
 
+// The first byte that ends a line. (Many bytes are looked at at once.)
 fn find_break(bytes: &[u8]) -> Option<usize>
     ensures found { IfSome result (λ i. (i < length bytes.now) × (get_or bytes.now i 0 ≡ 10) × NoBreak (take i bytes.now)) }
     ensures none { IfNone result (NoBreak bytes.now) }
 {
-    for i in 0..bytes.len() {
-        if bytes[i] == b'\n' {
-            return Some(i);
-        }
-    }
-    None
+    memchr(b'\n', bytes)
 }
 
 fn to_front(buf: &mut [u8], start: usize, end: usize)

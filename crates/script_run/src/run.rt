@@ -63,8 +63,10 @@ fn run_volume<B: Board, S: Source>(
     volume: &mut Volume<'_, B>,
     script: &mut S,
     line: &mut [u8],
+    marks: &mut [u8],
 ) -> Ending
     requires writable { write_refusal volume.old.geometry ≡ None }
+    requires marks { check_need volume.old.geometry ≤ length marks.old }
     requires room { 12288 ≤ length line.old }
     ensures later { IsLater result }
     ensures among { MayEndRun result }
@@ -77,7 +79,7 @@ fn run_volume<B: Board, S: Source>(
     ensures refused { B.tells volume.old.nor.now → (ending : Ending) → check_refusal volume.old.geometry (B.bytes volume.old.nor.now) ≡ Some ending → Refused B.NorState volume.old.geometry volume.old.nor.now volume.new.nor.now ending result }
     ensures begins { (slots : ℕ) → memory volume.old ≡ closed_memory slots → B.tells volume.old.nor.now → EndsByImages volume.old.geometry (B.bytes volume.old.nor.now) (B.bytes volume.new.nor.now) result }
 {
-    match begin(volume) {
+    match begin(volume, marks) {
         Err(ending) => ending,
         Ok(()) => {
             let ending = run_script(volume, script, line);
@@ -93,12 +95,14 @@ fn run<'b, B: Board, S: Source>(
     script: &mut S,
     lent: Lent<'b>,
     line: &mut [u8],
+    marks: &mut [u8],
 ) -> Ending
     requires fits { IsFitting g (B.unit board.old) (B.size board.old) }
     requires work { work_need g ≤ length lent.work.now }
     requires slots { 1 ≤ length lent.slots.now }
     requires cache { cache_need g ≤ length lent.cache.now }
-    requires check { check_need g ≤ length lent.check.now }
+    requires window { g.page ≤ length lent.window.now }
+    requires marks { check_need g ≤ length marks.old }
     requires line { 12288 ≤ length line.old }
     ensures later { IsLater result }
     ensures among { MayEndRun result }
@@ -113,7 +117,7 @@ fn run<'b, B: Board, S: Source>(
     ensures behind { StaysBehind B.NorState g board.old board.new }
 {
     let mut volume = Volume::new(g, board, lent);
-    run_volume(&mut volume, script, line)
+    run_volume(&mut volume, script, line, marks)
 }
 
 /// Mounts and checks the volume of a board in the lent memory, and runs a script on it.
@@ -136,8 +140,8 @@ pub fn run_on<B: Board, S: Source>(
         work: &mut *bufs.work,
         slots: &mut *bufs.slots,
         cache: &mut *bufs.cache,
-        check: &mut *bufs.check,
+        window: &mut *bufs.window,
     };
-    let ending = run(g, board, script, lent, bufs.line);
+    let ending = run(g, board, script, lent, bufs.line, bufs.check);
     conclude(board, ending)
 }

@@ -15,7 +15,7 @@ use nor_core::Nor;
 use table_model::{FsErr, Stat};
 use tool_parts::Buffers;
 use tree_paths::decoded;
-use vol_mount::{Lent, Reader, accept};
+use vol_mount::{Reader, ReaderLent, accept_reader};
 
 /// Bytes that are read at a time.
 const PIECE: usize = 4096;
@@ -76,9 +76,9 @@ fn print_on<N: Nor>(
     g: &Geometry,
     name: &[u8],
     nor: &mut N,
-    lent: Lent<'_>,
+    lent: ReaderLent<'_>,
 ) -> Option<Printed> {
-    let Ok(()) = accept(g, nor, &lent) else {
+    let Ok(()) = accept_reader(g, nor, &lent) else {
         return None;
     };
     let mut reader = Reader::new(*g, nor, lent);
@@ -101,9 +101,8 @@ fn print_in<C: HostChip>(
     bufs: &mut Buffers<'_>,
 ) -> Option<Printed> {
     let g = geometry_of(&meant.top)?;
-    let lent = Lent {
+    let lent = ReaderLent {
         work: &mut *bufs.work,
-        slots: &mut *bufs.slots,
         cache: &mut *bufs.cache,
         check: &mut *bufs.check,
     };

@@ -7,7 +7,7 @@ use meta_guess::{Guess, count_files, guess_meta};
 use nor_core::{Failed, Nor};
 use std::fmt;
 use tool_parts::Buffers;
-use vol_mount::{Lent, MountErr, accept, mount};
+use vol_mount::{MountErr, ReaderLent, accept_reader, mount};
 
 /// What a volume holds before the command.
 #[derive(Clone, Copy, Debug, PartialEq, Eq)]
@@ -77,8 +77,12 @@ pub fn geometry_of(words: &[String]) -> Option<Geometry> {
 }
 
 // Whether the volume mounts in the lent memory.
-fn is_mounted<N: Nor>(g: &Geometry, nor: &mut N, lent: &mut Lent<'_>) -> Result<bool, Failed> {
-    let Ok(()) = accept(g, nor, lent) else {
+fn is_mounted<N: Nor>(
+    g: &Geometry,
+    nor: &mut N,
+    lent: &mut ReaderLent<'_>,
+) -> Result<bool, Failed> {
+    let Ok(()) = accept_reader(g, nor, lent) else {
         return Ok(false);
     };
     let mut v = View::new(*g, nor, lent.work, &mut [], lent.cache);
@@ -112,9 +116,9 @@ fn look_at<N: Nor>(
     is_forced: bool,
     removes: bool,
     nor: &mut N,
-    lent: &mut Lent<'_>,
+    lent: &mut ReaderLent<'_>,
 ) -> Result<Option<Seen>, Failed> {
-    let Ok(()) = accept(g, nor, lent) else {
+    let Ok(()) = accept_reader(g, nor, lent) else {
         return Ok(None);
     };
     if is_forced {
@@ -166,9 +170,8 @@ pub fn look_on<N: Nor>(
     let Some(g) = geometry_of(words) else {
         return Ok(None);
     };
-    let mut lent = Lent {
+    let mut lent = ReaderLent {
         work: &mut *bufs.work,
-        slots: &mut *bufs.slots,
         cache: &mut *bufs.cache,
         check: &mut *bufs.check,
     };

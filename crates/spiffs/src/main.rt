@@ -93,6 +93,9 @@ const MOST_CACHE: usize = 301_989_888;
 /// The most bytes of check that are lent: enough for 65,535 pages.
 const MOST_CHECK: usize = 131_072;
 
+/// Bytes of the write window that are lent: the longest page.
+const WINDOW: usize = 4096;
+
 /// Bytes of line that are lent.
 const LINE: usize = 12_288;
 
@@ -103,6 +106,7 @@ struct Memory {
     slots: Vec<FdSlot>,
     cache: Vec<u8>,
     check: Vec<u8>,
+    window: Vec<u8>,
     line: Vec<u8>,
 }
 
@@ -130,6 +134,7 @@ impl Memory {
             slots: vec![in alloc; FdSlot::empty(); SLOTS]?,
             cache: vec![in alloc; 0u8; cache]?,
             check: vec![in alloc; 0u8; check_for(volume)]?,
+            window: vec![in alloc; 0u8; WINDOW]?,
             line: vec![in alloc; 0u8; LINE]?,
         })
     }
@@ -141,6 +146,7 @@ impl Memory {
             slots: &mut self.slots,
             cache: &mut self.cache,
             check: &mut self.check,
+            window: &mut self.window,
             line: &mut self.line,
         }
     }

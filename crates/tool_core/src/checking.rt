@@ -49,8 +49,9 @@ fn end_of_check(report: Report) -> Ending
 
 // Mounts and checks a volume, and says what the check found and did.
 #[tactic(auto, using(volume::proofs::Staying::same_then))]
-fn check_volume<B: Board>(volume: &mut Volume<'_, B>) -> Ending
-    requires { write_refusal volume.old.geometry ≡ None }
+fn check_volume<B: Board>(volume: &mut Volume<'_, B>, marks: &mut [u8]) -> Ending
+    requires writable { write_refusal volume.old.geometry ≡ None }
+    requires marks { check_need volume.old.geometry ≤ length marks.old }
     ensures later { IsLater result }
     ensures no_script { result ≢ Ending.SourceFault }
     ensures among { MayEndReport result }
@@ -58,7 +59,7 @@ fn check_volume<B: Board>(volume: &mut Volume<'_, B>) -> Ending
     ensures same { IsSameVolume volume.old volume.new }
     ensures checks { ChecksTo B.NorState volume.old.geometry volume.old.nor.now volume.new.nor.now result }
 {
-    let report = match mount_and_check(volume) {
+    let report = match mount_and_check(volume, marks) {
         Ok(report) => report,
         Err(ending) => return ending,
     };
@@ -69,11 +70,17 @@ fn check_volume<B: Board>(volume: &mut Volume<'_, B>) -> Ending
 }
 
 // Mounts and checks the volume of a board, and says what the check found and did.
-fn check_board<'b, B: Board>(g: Geometry, board: &'b mut B, lent: Lent<'b>) -> Ending
+fn check_board<'b, B: Board>(
+    g: Geometry,
+    board: &'b mut B,
+    lent: Lent<'b>,
+    marks: &mut [u8],
+) -> Ending
     requires fits { IsFitting g (B.unit board.old) (B.size board.old) }
     requires work { work_need g ≤ length lent.work.now }
     requires cache { cache_need g ≤ length lent.cache.now }
-    requires check { check_need g ≤ length lent.check.now }
+    requires window { g.page ≤ length lent.window.now }
+    requires marks { check_need g ≤ length marks.old }
     ensures later { IsLater result }
     ensures no_script { result ≢ Ending.SourceFault }
     ensures among { MayEndReport result }
@@ -83,7 +90,7 @@ fn check_board<'b, B: Board>(g: Geometry, board: &'b mut B, lent: Lent<'b>) -> E
     ensures few { ReadsOnce B.NorState g (length lent.entry.cache.now) board.old board.new }
 {
     let mut volume = Volume::new(g, board, lent);
-    check_volume(&mut volume)
+    check_volume(&mut volume, marks)
 }
 
 /// Mounts and checks the volume of a board in the lent memory, and says what the check found and did.
@@ -101,8 +108,8 @@ pub(crate) fn check_on<B: Board>(g: Geometry, board: &mut B, bufs: &mut Buffers<
         work: &mut *bufs.work,
         slots: &mut *bufs.slots,
         cache: &mut *bufs.cache,
-        check: &mut *bufs.check,
+        window: &mut *bufs.window,
     };
-    let ending = check_board(g, board, lent);
+    let ending = check_board(g, board, lent, bufs.check);
     conclude(board, ending)
 }

@@ -69,8 +69,10 @@ fn make_volume<B: Board, F: Folder>(
     volume: &mut Volume<'_, B>,
     folder: &mut F,
     line: &mut [u8],
+    marks: &mut [u8],
 ) -> Ending
     requires writable { write_refusal volume.old.geometry ≡ None }
+    requires marks { check_need volume.old.geometry ≤ length marks.old }
     requires room { 12288 ≤ length line.old }
     requires accepted { make_refusal volume.old.geometry (F.entries folder.old) ≡ None }
     ensures later { IsUnrefused result }
@@ -82,7 +84,7 @@ fn make_volume<B: Board, F: Folder>(
     ensures kept { Kept F.FolderState folder.old folder.new }
     ensures makes { (slots : ℕ) → 0 < slots → memory volume.old ≡ closed_memory (min 65535 slots) → B.tells volume.old.nor.now → HoldsFiles volume.old.geometry (B.bytes volume.old.nor.now) [] → MakesTo B.NorState F.FolderState volume.old.geometry volume.old.nor.now volume.new.nor.now folder.old result }
 {
-    if let Err(ending) = mount_and_check(volume) {
+    if let Err(ending) = mount_and_check(volume, marks) {
         return ending;
     }
     match put_files(volume, folder, line) {
@@ -101,12 +103,14 @@ fn make_board<'b, B: Board, F: Folder>(
     folder: &mut F,
     lent: Lent<'b>,
     line: &mut [u8],
+    marks: &mut [u8],
 ) -> Ending
     requires fits { IsFitting g (B.unit board.old) (B.size board.old) }
     requires work { work_need g ≤ length lent.work.now }
     requires slots { 1 ≤ length lent.slots.now }
     requires cache { cache_need g ≤ length lent.cache.now }
-    requires check { check_need g ≤ length lent.check.now }
+    requires window { g.page ≤ length lent.window.now }
+    requires marks { check_need g ≤ length marks.old }
     requires line { 12288 ≤ length line.old }
     requires accepted { make_refusal g (F.entries folder.old) ≡ None }
     ensures later { IsUnrefused result }
@@ -119,7 +123,7 @@ fn make_board<'b, B: Board, F: Folder>(
     ensures makes { B.tells board.old → HoldsFiles g (B.bytes board.old) [] → MakesTo B.NorState F.FolderState g board.old board.new folder.old result }
 {
     let mut volume = Volume::new(g, board, lent);
-    make_volume(&mut volume, folder, line)
+    make_volume(&mut volume, folder, line, marks)
 }
 
 /// Formats the volume of a board, mounts and checks it in the lent memory, writes each file of a folder into it, and says how
@@ -149,8 +153,8 @@ pub(crate) fn make_on<B: Board, F: Folder>(
         work: &mut *bufs.work,
         slots: &mut *bufs.slots,
         cache: &mut *bufs.cache,
-        check: &mut *bufs.check,
+        window: &mut *bufs.window,
     };
-    let ending = make_board(g, board, folder, lent, bufs.line);
+    let ending = make_board(g, board, folder, lent, bufs.line, bufs.check);
     conclude(board, ending)
 }

@@ -193,8 +193,14 @@ fn map_checked<'b, B: Board>(volume: &mut Volume<'b, B>, id: u16, numbers: &'b m
 
 // Mounts and checks a volume, maps the file of an id, collects garbage, and says the lines of the file's spans.
 #[tactic(auto, using(volume::proofs::Staying::same_then))]
-fn map_volume<'b, B: Board>(volume: &mut Volume<'b, B>, id: u16, numbers: &'b mut [u8]) -> Ending
+fn map_volume<'b, B: Board>(
+    volume: &mut Volume<'b, B>,
+    id: u16,
+    numbers: &'b mut [u8],
+    marks: &mut [u8],
+) -> Ending
     requires writable { write_refusal volume.old.geometry ≡ None }
+    requires marks { check_need volume.old.geometry ≤ length marks.old }
     requires free { is_attached volume.old ≡ false }
     requires room { length numbers.old ≡ 8192 }
     ensures later { IsLater result }
@@ -204,7 +210,7 @@ fn map_volume<'b, B: Board>(volume: &mut Volume<'b, B>, id: u16, numbers: &'b mu
     ensures same { IsSameVolume volume.old volume.new }
     ensures maps { (slots : ℕ) → memory volume.old ≡ closed_memory slots → MapsTo B.NorState volume.old.geometry id volume.old.nor.now volume.new.nor.now result }
 {
-    match mount_and_check(volume) {
+    match mount_and_check(volume, marks) {
         Ok(_) => map_checked(volume, id, numbers),
         Err(ending) => ending,
     }
@@ -217,11 +223,13 @@ fn map_board<'b, B: Board>(
     board: &'b mut B,
     lent: Lent<'b>,
     numbers: &'b mut [u8],
+    marks: &mut [u8],
 ) -> Ending
     requires fits { IsFitting g (B.unit board.old) (B.size board.old) }
     requires work { work_need g ≤ length lent.work.now }
     requires cache { cache_need g ≤ length lent.cache.now }
-    requires check { check_need g ≤ length lent.check.now }
+    requires window { g.page ≤ length lent.window.now }
+    requires marks { check_need g ≤ length marks.old }
     requires room { length numbers.old ≡ 8192 }
     ensures later { IsLater result }
     ensures no_script { result ≢ Ending.SourceFault }
@@ -232,7 +240,7 @@ fn map_board<'b, B: Board>(
     ensures few { ReadsOnce B.NorState g (length lent.entry.cache.now) board.old board.new }
 {
     let mut volume = Volume::new(g, board, lent);
-    map_volume(&mut volume, id, numbers)
+    map_volume(&mut volume, id, numbers, marks)
 }
 
 /// Mounts and checks the volume of a board in the lent memory, maps the file of an id from span 0 on in the first 8,192 bytes for lines,
@@ -251,10 +259,10 @@ pub(crate) fn map_on<B: Board>(g: Geometry, id: u16, board: &mut B, bufs: &mut B
         work: &mut *bufs.work,
         slots: &mut *bufs.slots,
         cache: &mut *bufs.cache,
-        check: &mut *bufs.check,
+        window: &mut *bufs.window,
     };
     let line = &mut *bufs.line;
     let (numbers, _) = line.split_at_mut(NUMBERS);
-    let ending = map_board(g, id, board, lent, numbers);
+    let ending = map_board(g, id, board, lent, numbers, bufs.check);
     conclude(board, ending)
 }

@@ -137,8 +137,9 @@ fn scrub_checked<B: Board>(volume: &mut Volume<'_, B>, limit: u16) -> Ending
 
 // Mounts and checks a volume, makes the steps, and says their line.
 #[tactic(auto, using(volume::proofs::Staying::same_then))]
-fn scrub_volume<B: Board>(volume: &mut Volume<'_, B>, limit: u16) -> Ending
+fn scrub_volume<B: Board>(volume: &mut Volume<'_, B>, limit: u16, marks: &mut [u8]) -> Ending
     requires writable { write_refusal volume.old.geometry ≡ None }
+    requires marks { check_need volume.old.geometry ≤ length marks.old }
     requires limit { (1 ≤ limit) × (limit ≤ 32767) }
     ensures later { IsLater result }
     ensures no_script { result ≢ Ending.SourceFault }
@@ -147,19 +148,26 @@ fn scrub_volume<B: Board>(volume: &mut Volume<'_, B>, limit: u16) -> Ending
     ensures same { IsSameVolume volume.old volume.new }
     ensures scrubs { (slots : ℕ) → memory volume.old ≡ closed_memory slots → ScrubsTo B.NorState volume.old.geometry limit volume.old.nor.now volume.new.nor.now result }
 {
-    match begin(volume) {
+    match begin(volume, marks) {
         Ok(()) => scrub_checked(volume, limit),
         Err(ending) => ending,
     }
 }
 
 // Mounts and checks the volume of a board, makes the steps, and says their line.
-fn scrub_board<'b, B: Board>(g: Geometry, limit: u16, board: &'b mut B, lent: Lent<'b>) -> Ending
+fn scrub_board<'b, B: Board>(
+    g: Geometry,
+    limit: u16,
+    board: &'b mut B,
+    lent: Lent<'b>,
+    marks: &mut [u8],
+) -> Ending
     requires fits { IsFitting g (B.unit board.old) (B.size board.old) }
     requires limit { (1 ≤ limit) × (limit ≤ 32767) }
     requires work { work_need g ≤ length lent.work.now }
     requires cache { cache_need g ≤ length lent.cache.now }
-    requires check { check_need g ≤ length lent.check.now }
+    requires window { g.page ≤ length lent.window.now }
+    requires marks { check_need g ≤ length marks.old }
     ensures later { IsLater result }
     ensures no_script { result ≢ Ending.SourceFault }
     ensures among { MayEndWork result }
@@ -169,7 +177,7 @@ fn scrub_board<'b, B: Board>(g: Geometry, limit: u16, board: &'b mut B, lent: Le
     ensures few { ReadsOnce B.NorState g (length lent.entry.cache.now) board.old board.new }
 {
     let mut volume = Volume::new(g, board, lent);
-    scrub_volume(&mut volume, limit)
+    scrub_volume(&mut volume, limit, marks)
 }
 
 /// Mounts and checks the volume of a board in the lent memory, makes scrub steps until one moves no block or as many as there are
@@ -194,8 +202,8 @@ pub(crate) fn scrub_on<B: Board>(
         work: &mut *bufs.work,
         slots: &mut *bufs.slots,
         cache: &mut *bufs.cache,
-        check: &mut *bufs.check,
+        window: &mut *bufs.window,
     };
-    let ending = scrub_board(g, limit, board, lent);
+    let ending = scrub_board(g, limit, board, lent, bufs.check);
     conclude(board, ending)
 }

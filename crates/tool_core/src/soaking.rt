@@ -44,8 +44,10 @@ fn soak_volume<B: Board>(
     seed: u64,
     turns: u32,
     line: &mut [u8],
+    marks: &mut [u8],
 ) -> Ending
     requires writable { write_refusal volume.old.geometry ≡ None }
+    requires marks { check_need volume.old.geometry ≤ length marks.old }
     requires room { 12288 ≤ length line.old }
     ensures later { IsLater result }
     ensures no_script { result ≢ Ending.SourceFault }
@@ -54,7 +56,7 @@ fn soak_volume<B: Board>(
     ensures same { IsSameVolume volume.old volume.new }
     ensures soaks { (slots : ℕ) → memory volume.old ≡ closed_memory (min 65535 slots) → B.tells volume.old.nor.now → HoldsFiles volume.old.geometry (B.bytes volume.old.nor.now) [] → SoaksTo B.NorState volume.old.geometry slots seed turns volume.old.nor.now volume.new.nor.now result }
 {
-    if let Err(ending) = mount_and_check(volume) {
+    if let Err(ending) = mount_and_check(volume, marks) {
         return ending;
     }
     match soak(volume, seed, turns, line) {
@@ -72,11 +74,13 @@ fn soak_board<'b, B: Board>(
     board: &'b mut B,
     lent: Lent<'b>,
     line: &mut [u8],
+    marks: &mut [u8],
 ) -> Ending
     requires fits { IsFitting g (B.unit board.old) (B.size board.old) }
     requires work { work_need g ≤ length lent.work.now }
     requires cache { cache_need g ≤ length lent.cache.now }
-    requires check { check_need g ≤ length lent.check.now }
+    requires window { g.page ≤ length lent.window.now }
+    requires marks { check_need g ≤ length marks.old }
     requires line { 12288 ≤ length line.old }
     ensures later { IsLater result }
     ensures no_script { result ≢ Ending.SourceFault }
@@ -86,7 +90,7 @@ fn soak_board<'b, B: Board>(
     ensures soaks { B.tells board.old → HoldsFiles g (B.bytes board.old) [] → SoaksTo B.NorState g (length lent.entry.slots.now) seed turns board.old board.new result }
 {
     let mut volume = Volume::new(g, board, lent);
-    soak_volume(&mut volume, seed, turns, line)
+    soak_volume(&mut volume, seed, turns, line, marks)
 }
 
 /// Formats the volume of a board, mounts and checks it in the lent memory, makes so many turns of calls on it that are drawn from a seed, and
@@ -114,8 +118,8 @@ pub(crate) fn soak_on<B: Board>(
         work: &mut *bufs.work,
         slots: &mut *bufs.slots,
         cache: &mut *bufs.cache,
-        check: &mut *bufs.check,
+        window: &mut *bufs.window,
     };
-    let ending = soak_board(g, seed, turns, board, lent, bufs.line);
+    let ending = soak_board(g, seed, turns, board, lent, bufs.line, bufs.check);
     conclude(board, ending)
 }

@@ -4,7 +4,7 @@ use Rattle.std.specs.Prelude.{Option, Some, None, nat_lt, if◌then◌else◌}
 use Rattle.geometry.specs.declared.error.GeoErr.{GeoErr}
 use Rattle.geometry.specs.Rules.{pages_in}
 use Rattle.vol_mount.specs.declared.lent.Part.{Part}
-use Rattle.vol_mount.specs.declared.lent.Part.TheVariants.{Work, Slots, Cache, Check, Line}
+use Rattle.vol_mount.specs.declared.lent.Part.TheVariants.{Work, Slots, Cache, Check, Window, Line}
 use Rattle.tool_parts.specs.declared.buffers.Lengths.{Lengths}
 use Rattle.tool_parts.specs.declared.ending.Ending.{Ending}
 use Rattle.tool_parts.specs.declared.ending.Ending.TheVariants.{Usage, Geometry, ShortBuffer}
@@ -18,14 +18,16 @@ shorter_early part need given later early = elim (nat_lt given need) as (λ b. I
 pub length_early : (page block blocks : ℕ) (lent : Lengths) → IsEarlyIf (length_refusal page block blocks lent)
 length_early page block blocks lent =
     let line : Option Ending = shorter Line 12288 lent.line None in
-    let check : Option Ending = shorter Check (blocks * pages_in page block + 8192) lent.check line in
+    let window : Option Ending = shorter Window page lent.window line in
+    let check : Option Ending = shorter Check (blocks * pages_in page block + 8192) lent.check window in
     let cache : Option Ending = shorter Cache (page + 8) lent.cache check in
     let slots : Option Ending = shorter Slots 1 lent.slots cache in
     shorter_early Work (work_need_in page block blocks) lent.work slots
     (shorter_early Slots 1 lent.slots cache
     (shorter_early Cache (page + 8) lent.cache check
-    (shorter_early Check (blocks * pages_in page block + 8192) lent.check line
-    (shorter_early Line 12288 lent.line None (tt {0})))))
+    (shorter_early Check (blocks * pages_in page block + 8192) lent.check window
+    (shorter_early Window page lent.window line
+    (shorter_early Line 12288 lent.line None (tt {0}))))))
 
 pub refused_early : (why : Option GeoErr) (later : Option Ending) → IsEarlyIf later → IsEarlyIf (refused_as why later)
 refused_early None later early = early

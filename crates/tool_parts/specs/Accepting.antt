@@ -5,7 +5,7 @@ use Rattle.geometry.specs.declared.error.GeoErr.TheVariants.{TooManyUsable, TooF
 use Rattle.geometry.specs.Rules.{pages_in, entries_in}
 use Rattle.geometry.specs.Numbers.{refusal}
 use Rattle.vol_mount.specs.declared.lent.Part.{Part}
-use Rattle.vol_mount.specs.declared.lent.Part.TheVariants.{Work, Slots, Cache, Check, Line}
+use Rattle.vol_mount.specs.declared.lent.Part.TheVariants.{Work, Slots, Cache, Check, Window, Line}
 use Rattle.tool_parts.specs.declared.words.Numbers.{Numbers}
 use Rattle.tool_parts.specs.declared.buffers.Lengths.{Lengths}
 use Rattle.tool_parts.specs.declared.ending.Ending.{Ending}
@@ -50,7 +50,8 @@ length_refusal page block blocks lent =
     (shorter Slots 1 lent.slots
     (shorter Cache (page + 8) lent.cache
     (shorter Check (blocks * pages_in page block + 8192) lent.check
-    (shorter Line 12288 lent.line None))))
+    (shorter Window page lent.window
+    (shorter Line 12288 lent.line None)))))
 
 -- numbers or a device that are refused, before what may be refused later
 abbrev pub refused_as : Option GeoErr → Option Ending → Option Ending

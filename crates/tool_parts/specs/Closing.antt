@@ -34,6 +34,7 @@ part_word Work = codes "work"
 part_word Slots = codes "slots"
 part_word Cache = codes "cache"
 part_word Check = codes "check"
+part_word Window = codes "window"
 part_word Line = codes "line"
 
 -- how much of a part is needed and given

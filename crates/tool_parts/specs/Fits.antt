@@ -26,4 +26,5 @@ pub record HasLengths (g : Geometry) (lent : Lengths) : Type 0 where
   pub slots : 1 ≤ lent.slots
   pub cache : cache_need g ≤ lent.cache
   pub check : check_need g ≤ lent.check
+  pub window : g.page ≤ lent.window
   pub line : 12288 ≤ lent.line

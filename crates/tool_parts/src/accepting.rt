@@ -86,6 +86,7 @@ fn short_part(g: &Geometry, lent: &Lengths) -> Option<Ending>
         .or(too_short(Part::Slots, 1, lent.slots))
         .or(too_short(Part::Cache, g.cache_need(), lent.cache))
         .or(too_short(Part::Check, g.check_need(), lent.check))
+        .or(too_short(Part::Window, g.page(), lent.window))
         .or(too_short(Part::Line, LINE_NEED, lent.line))
 }
 

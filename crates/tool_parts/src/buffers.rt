@@ -12,8 +12,10 @@ pub struct Buffers<'b> {
     pub slots: &'b mut [FdSlot],
     /// Bytes for copies of pages, at least `Geometry::cache_need`.
     pub cache: &'b mut [u8],
-    /// Bytes for the check and the write window, at least `Geometry::check_need`.
+    /// Bytes for the check, at least `Geometry::check_need`.
     pub check: &'b mut [u8],
+    /// Bytes for written bytes that wait, at least one page.
+    pub window: &'b mut [u8],
     /// Bytes for lines of the script and replies, at least 12,288.
     pub line: &'b mut [u8],
 }
@@ -27,8 +29,10 @@ pub struct Lengths {
     pub slots: usize,
     /// Bytes for copies of pages.
     pub cache: usize,
-    /// Bytes for the check and the write window.
+    /// Bytes for the check.
     pub check: usize,
+    /// Bytes for written bytes that wait.
+    pub window: usize,
     /// Bytes for lines.
     pub line: usize,
 }
@@ -42,6 +46,7 @@ pub fn measure(bufs: &Buffers<'_>) -> Lengths
         slots: bufs.slots.len(),
         cache: bufs.cache.len(),
         check: bufs.check.len(),
+        window: bufs.window.len(),
         line: bufs.line.len(),
     }
 }

@@ -86,13 +86,14 @@ impl Ending {
 // The word for a part of the lent memory.
 fn word_of(part: Part) -> &'static [u8]
     ensures word { result.now ≡ part_word part }
-    ensures short { length result.now ≤ 5 }
+    ensures short { length result.now ≤ 6 }
 {
     match part {
         Part::Work => b"work",
         Part::Slots => b"slots",
         Part::Cache => b"cache",
         Part::Check => b"check",
+        Part::Window => b"window",
         Part::Line => b"line",
     }
 }

@@ -1,5 +1,5 @@
 ghost use Rattle.std.specs.Prelude.{◌≡◌, ◌≢◌, length, min, IfOk, IfErr, OnOk, Err, None, true};
-ghost use Rattle.geometry.specs.Numbers.{write_refusal};
+ghost use Rattle.geometry.specs.Numbers.{write_refusal, check_need};
 ghost use Rattle.nor_core.specs.Count.{Rose};
 ghost use Rattle.nor_core.specs.Device.{Changes, OnlyReads};
 ghost use Rattle.image_model.specs.Tidy.{IsTidy, HasReserve};
@@ -47,10 +47,14 @@ pub fn check_ending(why: CheckErr) -> Ending
     }
 }
 
-/// Mounts and checks a volume, or says how a command ends there.
+/// Mounts and checks a volume, or says how a command ends there. The check works in `marks`.
 #[tactic(auto, using(volume::proofs::Staying::same_then))]
-pub fn mount_and_check<B: Board>(volume: &mut Volume<'_, B>) -> Result<Report, Ending>
-    requires { write_refusal volume.old.geometry ≡ None }
+pub fn mount_and_check<B: Board>(
+    volume: &mut Volume<'_, B>,
+    marks: &mut [u8],
+) -> Result<Report, Ending>
+    requires writable { write_refusal volume.old.geometry ≡ None }
+    requires marks { check_need volume.old.geometry ≤ length marks.old }
     ensures later { IfErr result IsLater }
     ensures no_script { ¬ (result ≡ Err Ending.SourceFault) }
     ensures among { IfErr result MayEndCheck }
@@ -67,15 +71,16 @@ pub fn mount_and_check<B: Board>(volume: &mut Volume<'_, B>) -> Result<Report, E
     if let Err(why) = volume.mount() {
         return Err(mount_ending(why));
     }
-    match volume.check() {
+    match volume.check(marks) {
         Ok(report) => Ok(report),
         Err(why) => Err(check_ending(why)),
     }
 }
 
-/// Mounts and checks a volume that is to be worked on, or says how the command ends there.
-pub fn begin<B: Board>(volume: &mut Volume<'_, B>) -> Result<(), Ending>
-    requires { write_refusal volume.old.geometry ≡ None }
+/// Mounts and checks a volume that is to be worked on, or says how the command ends there. The check works in `marks`.
+pub fn begin<B: Board>(volume: &mut Volume<'_, B>, marks: &mut [u8]) -> Result<(), Ending>
+    requires writable { write_refusal volume.old.geometry ≡ None }
+    requires marks { check_need volume.old.geometry ≤ length marks.old }
     ensures later { IfErr result IsLater }
     ensures no_script { ¬ (result ≡ Err Ending.SourceFault) }
     ensures among { IfErr result MayEndBegin }
@@ -90,7 +95,7 @@ pub fn begin<B: Board>(volume: &mut Volume<'_, B>) -> Result<(), Ending>
         HasReserve volume.old.geometry (B.bytes volume.old.nor.now) → OnlyReads B.NorState volume.old.nor.now volume.new.nor.now }
     ensures stops { B.tells volume.old.nor.now → IfErr result (StopsRun B.NorState volume.old.geometry volume.old.nor.now volume.new.nor.now) }
 {
-    match mount_and_check(volume) {
+    match mount_and_check(volume, marks) {
         Err(ending) => Err(ending),
         Ok(report) => {
             if report.free_blocks < 2 {

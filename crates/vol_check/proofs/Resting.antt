@@ -287,6 +287,10 @@ resting_skip g first a marks at p n more none s = record {
   settled = s.settled;
 }
 
+-- so are pages that have marks
+pub resting_marked : (g : Geometry) (first a marks : List ℕ) (at p n : ℕ) → at ≤ p → p ≤ page_count g → ((q : ℕ) → at ≤ q → q < p → slice_index marks q ≢ 0) → Resting g first a marks at n → Resting g first a marks p n
+resting_marked g first a marks at p n more inside some s = resting_skip g first a marks at p n more (λ q low high. marked_stays g a q (slice_index marks q) (s.marked q low (omega (arith, high, inside))) (some q low high)) s
+
 -- the same with a live page at p
 pub record Standing (g : Geometry) (first now marks : List ℕ) (p n : ℕ) : Type 0 where
   pub resting : Resting g first now marks p n

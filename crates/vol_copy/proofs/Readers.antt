@@ -14,7 +14,6 @@ module _ {N : Type 0} {nor : NorOf N} where
     nor_name = second.nor_name ∙ first.nor_name;
     work_name = second.work_name ∙ first.work_name;
     cache_name = second.cache_name ∙ first.cache_name;
-    slots_name = second.slots_name ∙ first.slots_name;
     check_name = second.check_name ∙ first.check_name;
     cache_size = second.cache_size ∙ first.cache_size;
     known = λ known. second.known (first.known known);
@@ -28,7 +27,6 @@ module _ {N : Type 0} {nor : NorOf N} where
     nor_name = refl;
     work_name = refl;
     cache_name = refl;
-    slots_name = refl;
     check_name = refl;
     cache_size = refl;
     known = λ known. known;

@@ -10,7 +10,6 @@ pub record IsSameReader {N : Type 0} {nor : NorOf N} (old new : Reader N nor) : 
   pub nor_name : new.nor.ghost_name ≡ old.nor.ghost_name
   pub work_name : new.work.ghost_name ≡ old.work.ghost_name
   pub cache_name : new.cache.ghost_name ≡ old.cache.ghost_name
-  pub slots_name : new.slots.ghost_name ≡ old.slots.ghost_name
   pub check_name : new.check.ghost_name ≡ old.check.ghost_name
   pub cache_size : length new.cache.now ≡ length old.cache.now
   pub known : old.known ≡ true → new.known ≡ true

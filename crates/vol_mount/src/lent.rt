@@ -12,8 +12,8 @@ pub struct Lent<'b> {
     pub slots: &'b mut [FdSlot],
     /// Bytes for copies of pages, at least `Geometry::cache_need`.
     pub cache: &'b mut [u8],
-    /// Bytes for the check and for the write window, at least `Geometry::check_need`.
-    pub check: &'b mut [u8],
+    /// Bytes for written bytes that wait, at least one page.
+    pub window: &'b mut [u8],
 }
 
 /// What a volume gives back: the device and the lent memory.
@@ -23,6 +23,26 @@ pub struct Returned<'b, N: Nor> {
     pub nor: &'b mut N,
     /// The lent memory.
     pub lent: Lent<'b>,
+}
+
+/// The memory that a reader works with. What it holds at first doesn't matter.
+#[derive(Drop)]
+pub struct ReaderLent<'b> {
+    /// Bytes for work, at least `Geometry::work_need`.
+    pub work: &'b mut [u8],
+    /// Bytes for copies of pages, at least `Geometry::cache_need`.
+    pub cache: &'b mut [u8],
+    /// Bytes for what a survey finds, at least `Geometry::check_need`.
+    pub check: &'b mut [u8],
+}
+
+/// What a reader gives back: the device and the lent memory.
+#[derive(Drop)]
+pub struct ReaderReturned<'b, N: Nor> {
+    /// The device.
+    pub nor: &'b mut N,
+    /// The lent memory.
+    pub lent: ReaderLent<'b>,
 }
 
 /// A part of the lent memory.
@@ -37,9 +57,12 @@ pub enum Part {
     /// Bytes for copies of pages.
     #[error("cache")]
     Cache,
-    /// Bytes for the check and the write window.
+    /// Bytes for the check, or for a reader's survey.
     #[error("check")]
     Check,
+    /// Bytes for written bytes that wait.
+    #[error("window")]
+    Window,
     /// Bytes for a line of a script and its reply.
     #[error("line")]
     Line,

@@ -3,10 +3,11 @@ ghost use Rattle.std.specs.Option.{IfSome};
 ghost use Rattle.nor_core.specs.Count.{Rose};
 ghost use Rattle.image_model.specs.Kinds.{spoiled_blocks as the_spoiled};
 ghost use Rattle.flash_view.specs.Same.{OnlyLooks};
-ghost use Rattle.vol_mount.specs.Mounts.{CountsSpoiled, Fits, short_of};
-ghost use Rattle.vol_mount.specs.Needs.{is_wrong_chip, short_buffer};
+ghost use Rattle.geometry.specs.Numbers.{check_need};
+ghost use Rattle.vol_mount.specs.Mounts.{CountsSpoiled, Fits, FitsReader, short_of, reader_short_of};
+ghost use Rattle.vol_mount.specs.Needs.{is_wrong_chip, short_check};
 
-use crate::{AcceptErr, Lent, MountErr, Part};
+use crate::{AcceptErr, Lent, MountErr, Part, ReaderLent};
 use flash_view::View;
 use geometry::{GeoErr, Geometry};
 use nor_core::{Failed, Nor, NorState};
@@ -31,7 +32,7 @@ fn too_short(part: Part, need: u32, given: usize) -> Option<AcceptErr>
 
 // The first part of the lent memory that is too short.
 fn short(g: &Geometry, lent: &Lent<'_>) -> Option<AcceptErr>
-    ensures { result ≡ short_buffer g.now (length lent.now.work.now) (length lent.now.slots.now) (length lent.now.cache.now) (length lent.now.check.now) }
+    ensures { result ≡ short_of g.now lent.now }
 {
     let work = too_short(Part::Work, g.work_need(), lent.work.len());
     if work.is_some() {
@@ -40,6 +41,21 @@ fn short(g: &Geometry, lent: &Lent<'_>) -> Option<AcceptErr>
     let slots = too_short(Part::Slots, 1, lent.slots.len());
     if slots.is_some() {
         return slots;
+    }
+    let cache = too_short(Part::Cache, g.cache_need(), lent.cache.len());
+    if cache.is_some() {
+        return cache;
+    }
+    too_short(Part::Window, g.page(), lent.window.len())
+}
+
+// The first part of a reader's memory that is too short.
+fn reader_short(g: &Geometry, lent: &ReaderLent<'_>) -> Option<AcceptErr>
+    ensures { result ≡ reader_short_of g.now lent.now }
+{
+    let work = too_short(Part::Work, g.work_need(), lent.work.len());
+    if work.is_some() {
+        return work;
     }
     let cache = too_short(Part::Cache, g.cache_need(), lent.cache.len());
     if cache.is_some() {
@@ -64,7 +80,7 @@ fn spoiled_blocks<N: Nor>(v: &mut View<'_, N>) -> Result<u32, Failed>
 }
 
 /// Whether a device and the lent memory fit a volume. Nothing is read. Refused are, in this order, a device
-/// that doesn't fit (`Wrong`), and lent memory that is too short (`ShortBuffer`). `View::new` then takes them.
+/// that doesn't fit (`Wrong`), and lent memory that is too short (`ShortBuffer`). `Volume::new` then takes them.
 pub fn accept<N: Nor>(g: &Geometry, nor: &N, lent: &Lent<'_>) -> Result<(), AcceptErr>
     ensures wrong { is_wrong_chip g.now (N.unit nor.now) (N.size nor.now) ≡ true → result ≡ Err (AcceptErr.Wrong GeoErr.WrongChip) }
     ensures short { is_wrong_chip g.now (N.unit nor.now) (N.size nor.now) ≡ false → IfSome (short_of g.now lent.now) (λ why. result ≡ Err why) }
@@ -75,6 +91,36 @@ pub fn accept<N: Nor>(g: &Geometry, nor: &N, lent: &Lent<'_>) -> Result<(), Acce
         return Err(AcceptErr::Wrong(GeoErr::WrongChip));
     }
     match short(g, lent) {
+        Some(why) => Err(why),
+        None => Ok(()),
+    }
+}
+
+/// Whether a device and the lent memory fit a reader. Nothing is read. Refused are, in this order, a device that
+/// doesn't fit (`Wrong`), and lent memory that is too short (`ShortBuffer`). `Reader::new` then takes them.
+pub fn accept_reader<N: Nor>(g: &Geometry, nor: &N, lent: &ReaderLent<'_>) -> Result<(), AcceptErr>
+    ensures wrong { is_wrong_chip g.now (N.unit nor.now) (N.size nor.now) ≡ true → result ≡ Err (AcceptErr.Wrong GeoErr.WrongChip) }
+    ensures short { is_wrong_chip g.now (N.unit nor.now) (N.size nor.now) ≡ false → IfSome (reader_short_of g.now lent.now) (λ why. result ≡ Err why) }
+    ensures accepted { is_wrong_chip g.now (N.unit nor.now) (N.size nor.now) ≡ false → reader_short_of g.now lent.now ≡ None → IsOk result }
+    ensures fits { OnOk result (FitsReader g.now (N.unit nor.now) (N.size nor.now) lent.now) }
+{
+    if wrong_chip(g, nor) {
+        return Err(AcceptErr::Wrong(GeoErr::WrongChip));
+    }
+    match reader_short(g, lent) {
+        Some(why) => Err(why),
+        None => Ok(()),
+    }
+}
+
+/// Whether the memory that is lent to the check of a volume fits it: at least `Geometry::check_need` bytes. Refused is
+/// memory that is too short (`ShortBuffer`). `Volume::check` then takes it.
+pub fn accept_check(g: &Geometry, lent: &[u8]) -> Result<(), AcceptErr>
+    ensures short { IfSome (short_check g.now (length lent.now)) (λ why. result ≡ Err why) }
+    ensures accepted { short_check g.now (length lent.now) ≡ None → IsOk result }
+    ensures fits { OnOk result (check_need g.now ≤ length lent.now) }
+{
+    match too_short(Part::Check, g.check_need(), lent.len()) {
         Some(why) => Err(why),
         None => Ok(()),
     }

@@ -4,8 +4,7 @@ ghost use Rattle.page_cache.specs.Kept.{IsKept};
 ghost use Rattle.file_find.specs.Marks.{IsMarked};
 
 use crate::calls::{damaged_on, mount_on, next_on, read_on, survey_on};
-use crate::{Lent, MountErr, Returned};
-use fd_table::FdSlot;
+use crate::{MountErr, ReaderLent, ReaderReturned};
 use geometry::Geometry;
 use image_model::Damage;
 use nor_core::{Board, Failed, Nor, NorState};
@@ -24,9 +23,7 @@ pub struct Reader<'b, N: Nor> {
     pub work: &'b mut [u8],
     /// Bytes for copies of pages.
     pub cache: &'b mut [u8],
-    /// Descriptors, of which a reader uses none.
-    pub slots: &'b mut [FdSlot],
-    /// Bytes for the check: what the survey found.
+    /// What the survey found.
     pub check: &'b mut [u8],
     /// Whether the volume was surveyed.
     pub known: bool,
@@ -55,8 +52,8 @@ impl<'b, N: Nor> Reader<'b, N> {
     ghost use Rattle.vol_mount.specs.Reads.{ReadAnswers, IsReadErr};
     ghost use Rattle.vol_mount.specs.Readers.{IsSameReader};
 
-    /// A reader of a device that `accept` takes with this lent memory.
-    pub fn new(g: Geometry, nor: &'b mut N, lent: Lent<'b>) -> Reader<'b, N>
+    /// A reader of a device that `accept_reader` takes with this lent memory.
+    pub fn new(g: Geometry, nor: &'b mut N, lent: ReaderLent<'b>) -> Reader<'b, N>
         requires unit { N.unit nor.old ≡ g.phys }
         requires fits { g.blocks * g.block ≤ N.size nor.old }
         requires work { work_need g ≤ length lent.work.now }
@@ -67,24 +64,17 @@ impl<'b, N: Nor> Reader<'b, N> {
         ensures nor_name { result.nor.ghost_name ≡ nor.entry.ghost_name }
         ensures work_name { result.work.ghost_name ≡ lent.entry.work.ghost_name }
         ensures cache_name { result.cache.ghost_name ≡ lent.entry.cache.ghost_name }
-        ensures slots_name { result.slots.ghost_name ≡ lent.entry.slots.ghost_name }
         ensures check_name { result.check.ghost_name ≡ lent.entry.check.ghost_name }
         ensures cache_size { length result.cache.now ≡ length lent.entry.cache.now }
         ensures empty { held g result.cache.now ≡ 0 }
     {
-        let Lent {
-            work,
-            slots,
-            cache,
-            check,
-        } = lent;
+        let ReaderLent { work, cache, check } = lent;
         let (nor, cache) = Cached::new(g, nor, cache).give_back();
         Reader {
             geometry: g,
             nor,
             work,
             cache,
-            slots,
             check,
             known: false,
         }
@@ -217,12 +207,11 @@ impl<'b, N: Nor> Reader<'b, N> {
     }
 
     /// Gives back what was lent.
-    pub fn give_back(self) -> Returned<'b, N>
+    pub fn give_back(self) -> ReaderReturned<'b, N>
         ensures nor { result.nor.now ≡ self.entry.nor.now }
         ensures nor_name { result.nor.ghost_name ≡ self.entry.nor.ghost_name }
         ensures work_name { result.lent.work.ghost_name ≡ self.entry.work.ghost_name }
         ensures cache_name { result.lent.cache.ghost_name ≡ self.entry.cache.ghost_name }
-        ensures slots_name { result.lent.slots.ghost_name ≡ self.entry.slots.ghost_name }
         ensures check_name { result.lent.check.ghost_name ≡ self.entry.check.ghost_name }
     {
         let Reader {
@@ -230,18 +219,12 @@ impl<'b, N: Nor> Reader<'b, N> {
             nor,
             work,
             cache,
-            slots,
             check,
             known: _,
         } = self;
-        Returned {
+        ReaderReturned {
             nor,
-            lent: Lent {
-                work,
-                slots,
-                cache,
-                check,
-            },
+            lent: ReaderLent { work, cache, check },
         }
     }
 }

@@ -266,7 +266,7 @@ held_run h lent r fits is = ⊎_elim
 module _ {N : Type 0} {nor : NorOf N} where
   module _ {v : Volume N nor} {fd len : ℕ} {slot : FdSlot} (on : GoesOnAt v fd len slot) where
     held_on : IsHeld v.held on.run
-    held_on = held_run v.held v.check.now on.run v.held_fits on.waits
+    held_on = held_run v.held v.window.now on.run v.held_fits on.waits
 
     follows_on : Follows v.geometry on.run fd len
     follows_on = (follows_by v.geometry (memory_of v).run on.run fd (on.run.start + length on.run.bytes) len on.waits on.goes_on).0
@@ -278,8 +278,8 @@ module _ {N : Type 0} {nor : NorOf N} where
     pub few_on : v.held.taken + len ≤ body v.geometry
     few_on = let back = div-mul-le_self on.run.start (body v.geometry) in omega (arith, back, follows_on.within, held_on.taken)
 
-    pub room_held : v.held.taken + len ≤ length v.check.now
-    room_held = let most = v.geometry.valid.page_most in omega (arith, few_on, v.check_fits, most)
+    pub room_held : v.held.taken + len ≤ length v.window.now
+    room_held = let most = v.geometry.valid.page_most in omega (arith, few_on, v.window_fits)
 
     pub few_held : v.held.taken + len < 2 ^ 32
     few_held = let most = v.geometry.valid.page_most in omega (arith, few_on, most)

@@ -17,7 +17,7 @@ module _ {N : Type 0} {nor : NorOf N} where
     work_name = second.work_name ∙ first.work_name;
     cache_name = second.cache_name ∙ first.cache_name;
     slots_name = second.slots_name ∙ first.slots_name;
-    check_name = second.check_name ∙ first.check_name;
+    window_name = second.window_name ∙ first.window_name;
     cache_size = second.cache_size ∙ first.cache_size;
     behind = behind_then _ first.behind (subst (λ (g : Geometry). StaysBehind nor g mid.nor.now new.nor.now) first.geometry second.behind);
     faults = omega (arith, first.faults, second.faults);
@@ -31,7 +31,7 @@ module _ {N : Type 0} {nor : NorOf N} where
     work_name = refl;
     cache_name = refl;
     slots_name = refl;
-    check_name = refl;
+    window_name = refl;
     cache_size = refl;
     behind = behind_none v.geometry v.nor.now;
     faults = omega arith;

@@ -9,7 +9,7 @@ use Rattle.volume.specs.declared.volume.Volume.{Volume}
 
 -- what a volume remembers beside its device: its descriptors, and the written bytes that wait
 abbrev pub memory : {N : Type 0} {nor : NorOf N} → Volume N nor → Memory
-memory v = record { slots = descriptors v.slots.now; run = run_in v.held v.check.now }
+memory v = record { slots = descriptors v.slots.now; run = run_in v.held v.window.now }
 
 -- a volume stands at a moment
 abbrev pub Holds : {N : Type 0} {nor : NorOf N} → Volume N nor → Moment → Type 0

@@ -13,7 +13,7 @@ pub record IsSameVolume {N : Type 0} {nor : NorOf N} (old new : Volume N nor) : 
   pub work_name : new.work.ghost_name ≡ old.work.ghost_name
   pub cache_name : new.cache.ghost_name ≡ old.cache.ghost_name
   pub slots_name : new.slots.ghost_name ≡ old.slots.ghost_name
-  pub check_name : new.check.ghost_name ≡ old.check.ghost_name
+  pub window_name : new.window.ghost_name ≡ old.window.ghost_name
   pub cache_size : length new.cache.now ≡ length old.cache.now
   pub behind : StaysBehind nor old.geometry old.nor.now new.nor.now
   pub faults : nor.faults old.nor.now ≤ nor.faults new.nor.now

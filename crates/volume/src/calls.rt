@@ -162,7 +162,7 @@ impl<'b, N: Nor> Volume<'b, N> {
             &mut self.counted,
             self.slots,
             &mut self.held,
-            self.check,
+            self.window,
             call,
             into,
         );

@@ -22,6 +22,8 @@ pub use map_calls::{MapErr, MapRefusal};
 pub use stage::Stage;
 pub use table_model::{Call, Differ, FsErr, Info, Meta, Name, Reply, Stat, Tag, Whence};
 pub use vol_check::{CheckErr, Report};
-pub use vol_mount::{AcceptErr, FormatErr, Lent, MountErr, Part, Returned, accept, format};
+pub use vol_mount::{
+    AcceptErr, FormatErr, Lent, MountErr, Part, Returned, accept, accept_check, format,
+};
 pub use volume::{Unmounted, Volume};
 pub use wear_scrub::Scrub;

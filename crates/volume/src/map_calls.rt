@@ -173,7 +173,7 @@ impl<'b, N: Nor> Volume<'b, N> {
         ensures same { IsSameVolume self.old self.new }
         ensures slots { self.new.slots.now ≡ self.old.slots.now }
         ensures held { self.new.held ≡ self.old.held }
-        ensures check { self.new.check.now ≡ self.old.check.now }
+        ensures window { self.new.window.now ≡ self.old.window.now }
         ensures stage { self.new.stage ≡ stage_after had (map_reply (why_back result)) }
         ensures done { OnOk result ((self.new.map.used ≡ true) × (self.new.map.id ≡ id) × (self.new.map.first ≡ first) × (length self.new.numbers.now ≡ length numbers.old)) }
         ensures back { IfErr result (λ refusal. length refusal.numbers.now ≡ length numbers.old) }
@@ -277,7 +277,7 @@ impl<'b, N: Nor> Volume<'b, N> {
         ensures same { IsSameVolume self.old self.new }
         ensures slots { self.new.slots.now ≡ self.old.slots.now }
         ensures held { self.new.held ≡ self.old.held }
-        ensures check { self.new.check.now ≡ self.old.check.now }
+        ensures window { self.new.window.now ≡ self.old.window.now }
         ensures stage { self.new.stage ≡ self.old.stage }
         ensures map { self.new.map ≡ self.old.map }
         ensures numbers { self.new.numbers.now ≡ self.old.numbers.now }

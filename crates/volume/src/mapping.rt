@@ -80,7 +80,7 @@ impl<'b, N: Nor> Volume<'b, N> {
         ensures same { IsSameVolume self.old self.new }
         ensures slots { self.new.slots.now ≡ self.old.slots.now }
         ensures held { self.new.held ≡ self.old.held }
-        ensures check { self.new.check.now ≡ self.old.check.now }
+        ensures window { self.new.window.now ≡ self.old.window.now }
         ensures stage { self.new.stage ≡ self.old.stage }
         ensures room { length self.new.numbers.now ≡ length self.old.numbers.now }
         ensures lost { self.new.map.used ≡ false → Rose (N.faults self.old.nor.now) (N.faults self.new.nor.now) ⊎ HasNoHeader self.new id }
@@ -123,7 +123,7 @@ impl<'b, N: Nor> Volume<'b, N> {
         ensures same { IsSameVolume self.old self.new }
         ensures slots { self.new.slots.now ≡ self.old.slots.now }
         ensures held { self.new.held ≡ self.old.held }
-        ensures check { self.new.check.now ≡ self.old.check.now }
+        ensures window { self.new.window.now ≡ self.old.window.now }
         ensures stage { self.new.stage ≡ self.old.stage }
         ensures room { length self.new.numbers.now ≡ length self.old.numbers.now }
         ensures still { self.old.map.used ≡ true → self.new ≡ self.old }

@@ -93,7 +93,7 @@ impl<'b, N: Nor> Volume<'b, N> {
         if !held.is_used() {
             return Ok(false);
         }
-        let bytes = &mut *self.check;
+        let bytes = &mut *self.window;
         let g = self.geometry;
         let work = &mut *self.work;
         let (work, rows) = work.split_at_mut(g.scratch_need() as usize);

@@ -40,8 +40,8 @@ pub struct Volume<'b, N: Nor> {
     pub cache: &'b mut [u8],
     /// The descriptors.
     pub slots: &'b mut [FdSlot],
-    /// Bytes for the check. After it written bytes that wait stand at their front.
-    pub check: &'b mut [u8],
+    /// Bytes for the write window: written bytes that wait stand at their front.
+    pub window: &'b mut [u8],
     /// The numbers of the written bytes that wait.
     pub held: Held,
     /// The map of a file, if there is one.
@@ -56,8 +56,8 @@ pub struct Volume<'b, N: Nor> {
     pub ghost fits: { geometry.blocks * geometry.block ≤ N.size nor.now },
     pub ghost work_fits: { work_need geometry ≤ length work.now },
     pub ghost cache_fits: { cache_need geometry ≤ length cache.now },
-    pub ghost check_fits: { check_need geometry ≤ length check.now },
-    pub ghost held_fits: { held.taken ≤ length check.now },
+    pub ghost window_fits: { geometry.page ≤ length window.now },
+    pub ghost held_fits: { held.taken ≤ length window.now },
     pub ghost kept: { IsKept N.NorState geometry nor.now cache.now },
     pub ghost magics: { is_mounted stage ≡ true → N.tells nor.now → HasMagics geometry (N.bytes nor.now) },
     pub ghost writable: { is_open stage ≡ true → usable geometry ≤ 32766 },
@@ -178,14 +178,14 @@ impl<'b, N: Nor> Volume<'b, N> {
         requires fits { g.blocks * g.block ≤ N.size nor.old }
         requires work { work_need g ≤ length lent.work.now }
         requires cache { cache_need g ≤ length lent.cache.now }
-        requires check { check_need g ≤ length lent.check.now }
+        requires window { g.page ≤ length lent.window.now }
         ensures geometry { result.geometry ≡ g }
         ensures nor { result.nor.now ≡ nor.old }
         ensures nor_name { result.nor.ghost_name ≡ nor.entry.ghost_name }
         ensures work_name { result.work.ghost_name ≡ lent.entry.work.ghost_name }
         ensures cache_name { result.cache.ghost_name ≡ lent.entry.cache.ghost_name }
         ensures slots_name { result.slots.ghost_name ≡ lent.entry.slots.ghost_name }
-        ensures check_name { result.check.ghost_name ≡ lent.entry.check.ghost_name }
+        ensures window_name { result.window.ghost_name ≡ lent.entry.window.ghost_name }
         ensures cache_size { length result.cache.now ≡ length lent.entry.cache.now }
         ensures empty { held g result.cache.now ≡ 0 }
         ensures stage { result.stage ≡ Stage.Unmounted }
@@ -196,7 +196,7 @@ impl<'b, N: Nor> Volume<'b, N> {
             work,
             slots,
             cache,
-            check,
+            window,
         } = lent;
         let slots = FdTable::new(slots).give_back();
         let (nor, cache) = Cached::new(g, nor, cache).give_back();
@@ -206,7 +206,7 @@ impl<'b, N: Nor> Volume<'b, N> {
             work,
             cache,
             slots,
-            check,
+            window,
             held: Held::none(),
             map: IxMap::none(),
             numbers: &mut [],
@@ -246,9 +246,11 @@ impl<'b, N: Nor> Volume<'b, N> {
     /// two. Then every descriptor is closed, and the counts of blocks are kept. Refused, with nothing written, are a volume that may not
     /// be written (`Wrong`) and one with too few free pages for the index pages of such blocks (`Mixed`). Where the device fails, or a
     /// page that is moved reads otherwise than it was written (`Damaged`), what was done stays, and the check can be called again. There
-    /// is no map then; the bytes that are lent for one stay lent.
-    pub fn check(&mut self) -> Result<Report, CheckErr>
+    /// is no map then; the bytes that are lent for one stay lent. The check works in the bytes that are lent to it, which
+    /// `vol_mount::accept_check` takes; what they hold at first doesn't matter, and when it ends they are free.
+    pub fn check(&mut self, lent: &mut [u8]) -> Result<Report, CheckErr>
         requires mounted { is_mounted self.old.stage ≡ true }
+        requires room { check_need self.old.geometry ≤ length lent.old }
         ensures checks { ChecksVolume N.NorState self.old.geometry self.old.nor.now self.new.nor.now result }
         ensures taken { OnOk result (takes_calls self.new ≡ true) }
         ensures stage { OnErr result (self.new.stage ≡ self.old.stage) }
@@ -262,15 +264,7 @@ impl<'b, N: Nor> Volume<'b, N> {
         let g = self.geometry;
         let work = &mut *self.work;
         let (work, rows) = work.split_at_mut(g.scratch_need() as usize);
-        let report = check_on(
-            g,
-            self.nor,
-            work,
-            rows,
-            self.cache,
-            &mut self.counted,
-            self.check,
-        )?;
+        let report = check_on(g, self.nor, work, rows, self.cache, &mut self.counted, lent)?;
         close_all(self.slots);
         self.held = Held::none();
         self.stage = Stage::Checked;
@@ -295,7 +289,7 @@ impl<'b, N: Nor> Volume<'b, N> {
         ensures work_name { result.back.lent.work.ghost_name ≡ self.entry.work.ghost_name }
         ensures cache_name { result.back.lent.cache.ghost_name ≡ self.entry.cache.ghost_name }
         ensures slots_name { result.back.lent.slots.ghost_name ≡ self.entry.slots.ghost_name }
-        ensures check_name { result.back.lent.check.ghost_name ≡ self.entry.check.ghost_name }
+        ensures window_name { result.back.lent.window.ghost_name ≡ self.entry.window.ghost_name }
     {
         let last = match self.stage {
             Stage::Failed => Err(FsErr::Failed),
@@ -308,7 +302,7 @@ impl<'b, N: Nor> Volume<'b, N> {
             work,
             cache,
             slots,
-            check,
+            window,
             held: _,
             map: _,
             numbers: _,
@@ -319,7 +313,7 @@ impl<'b, N: Nor> Volume<'b, N> {
             work,
             slots,
             cache,
-            check,
+            window,
         };
         Unmounted {
             back: Returned { nor, lent },

@@ -12,7 +12,7 @@ ghost use Rattle.file_calls.specs.Replies.{reply_of};
 
 use crate::{Told, Volume};
 use fd_table::{FdSlot, open_slot, put};
-use file_calls::{have_room, opened, record_of, write_all};
+use file_calls::{have_room, opened, record_of, write_sized};
 use flash_view::View;
 use geometry::Geometry;
 use nor_core::{Nor, NorState};
@@ -83,7 +83,7 @@ pub(crate) fn write_in<N: Nor>(
         put(slots, fd, moved);
         return Ok(Told::Number(bytes.len() as u32));
     }
-    write_all(v, slot.id, at, bytes)?;
+    write_sized(v, slot.id, size, at, bytes)?;
     put(slots, fd, moved);
     Ok(Told::Number(bytes.len() as u32))
 }
@@ -134,7 +134,7 @@ impl<'b, N: Nor> Volume<'b, N> {
             return Told::Number(0);
         }
         let start = self.held.start;
-        self.held = push(&self.held, self.check, bytes);
+        self.held = push(&self.held, self.window, bytes);
         let moved = FdSlot {
             offset: start.saturating_add(self.held.taken),
             ..slot

@@ -30,11 +30,12 @@ fn row_of(g: &Geometry, image: &[u8], fails: Option<(usize, CallKind, u64)>) -> 
 fn copy(gf: &Geometry, source: &[u8], g: &Geometry, row: &mut ChipRow<MemChip>) -> Result<Copied, CopyErr> {
     let mut board = board_of(gf, source);
     let (mut from_memory, mut memory) = (Memory::new(gf, 1), Memory::new(g, 1));
-    let mut from = Reader::new(*gf, &mut board, from_memory.lend());
+    let mut from = Reader::new(*gf, &mut board, from_memory.lend_reader());
     from.mount().expect("mounts");
-    let mut to = Volume::new(*g, row, memory.lend());
+    let (lent, marks) = memory.lend();
+    let mut to = Volume::new(*g, row, lent);
     to.mount().expect("mounts");
-    to.check().expect("checked");
+    to.check(marks).expect("checked");
     copy_all(&mut from, &mut to, &mut [0; 4096])
 }
 
@@ -82,9 +83,10 @@ fn file(name: &str, size: usize, seed: usize) -> Plain {
 fn worn(g: &Geometry, files: &[Plain], turns: u8) -> std::vec::Vec<u8> {
     let mut board = board_of(g, &image_of(g, files));
     let mut memory = Memory::new(g, 1);
-    let mut volume = Volume::new(*g, &mut board, memory.lend());
+    let (lent, marks) = memory.lend();
+    let mut volume = Volume::new(*g, &mut board, lent);
     volume.mount().expect("mounts");
-    volume.check().expect("checked");
+    volume.check(marks).expect("checked");
     for turn in 0..turns {
         let fd = volume.open_file(b"gone", 20).expect("opens");
         assert_eq!(volume.write(fd, &[turn; 600]), Ok(600));

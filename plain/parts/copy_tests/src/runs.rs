@@ -4,7 +4,7 @@ use crate::plain::{Plain, Wanted};
 use liverymenhir::fd_table::FdSlot;
 use liverymenhir::geometry::Geometry;
 use liverymenhir::nor_core::Nor;
-use liverymenhir::vol_mount::{Lent, Reader, format};
+use liverymenhir::vol_mount::{Lent, Reader, ReaderLent, format};
 use liverymenhir::volume::Volume;
 use spiffs::vol_copy::{Copied, CopyErr, copy_all};
 use rattle_host::alloc::Global;
@@ -18,6 +18,7 @@ pub(crate) struct Memory {
     slots: Vec<FdSlot>,
     cache: Vec<u8>,
     check: Vec<u8>,
+    window: Vec<u8>,
 }
 
 impl Memory {
@@ -27,13 +28,25 @@ impl Memory {
             slots: (0..slots).map(|_| FdSlot::empty()).collect(),
             cache: vec![0; g.cache_need() as usize],
             check: vec![0; g.check_need() as usize],
+            window: vec![0; g.page() as usize],
         }
     }
 
-    pub(crate) fn lend(&mut self) -> Lent<'_> {
-        Lent {
+    /// What is lent to a volume, and to its checks.
+    pub(crate) fn lend(&mut self) -> (Lent<'_>, &mut [u8]) {
+        let lent = Lent {
             work: &mut self.work,
             slots: &mut self.slots,
+            cache: &mut self.cache,
+            window: &mut self.window,
+        };
+        (lent, &mut self.check)
+    }
+
+    /// What is lent to a reader.
+    pub(crate) fn lend_reader(&mut self) -> ReaderLent<'_> {
+        ReaderLent {
+            work: &mut self.work,
             cache: &mut self.cache,
             check: &mut self.check,
         }
@@ -55,9 +68,10 @@ pub(crate) fn formatted(g: &Geometry) -> Vec<u8> {
 pub(crate) fn image_of(g: &Geometry, files: &[Plain]) -> Vec<u8> {
     let mut board = board_of(g, &formatted(g));
     let mut memory = Memory::new(g, 1);
-    let mut volume = Volume::new(*g, &mut board, memory.lend());
+    let (lent, marks) = memory.lend();
+    let mut volume = Volume::new(*g, &mut board, lent);
     volume.mount().expect("mounts");
-    volume.check().expect("checked");
+    volume.check(marks).expect("checked");
     for file in files {
         let fd = volume.open_file(&file.name, 20).expect("opens");
         if !file.bytes.is_empty() {
@@ -90,9 +104,10 @@ fn set_kind(g: &Geometry, image: &mut [u8], file: &Plain) {
 /// The files that a device has after a mount and a check.
 pub(crate) fn files_on<N: Nor>(g: &Geometry, device: &mut N) -> Vec<Plain> {
     let mut memory = Memory::new(g, 1);
-    let mut volume = Volume::new(*g, device, memory.lend());
+    let (lent, marks) = memory.lend();
+    let mut volume = Volume::new(*g, device, lent);
     volume.mount().expect("mounts");
-    volume.check().expect("checked");
+    volume.check(marks).expect("checked");
     let mut files = Vec::new();
     let mut after = 0;
     while let Some(stat) = volume.next(after).expect("told") {
@@ -146,11 +161,12 @@ pub(crate) fn copy(gf: &Geometry, source: &[u8], g: &Geometry, target: &[u8], sl
     let mut from_memory = Memory::new(gf, 1);
     let mut to_memory = Memory::new(g, slots);
     let result = {
-        let mut from = Reader::new(*gf, &mut from_board, from_memory.lend());
+        let mut from = Reader::new(*gf, &mut from_board, from_memory.lend_reader());
         from.mount().expect("mounts");
-        let mut to = Volume::new(*g, &mut to_board, to_memory.lend());
+        let (lent, marks) = to_memory.lend();
+        let mut to = Volume::new(*g, &mut to_board, lent);
         to.mount().expect("mounts");
-        to.check().expect("checked");
+        to.check(marks).expect("checked");
         match fault {
             Fault::None => (),
             Fault::Cut(passed, pick) => to.nor.cut_after(passed, pick),

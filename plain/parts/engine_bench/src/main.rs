@@ -97,16 +97,17 @@ fn main() -> Result<(), Box<dyn Error>> {
     let mut cache = vec![0; g.cache_need() as usize * frames];
     let mut check = vec![0; g.check_need() as usize];
     let mut numbers = vec![0; 65536];
+    let mut window = vec![0; g.page() as usize];
     let lent = Lent {
         work: &mut work,
         slots: &mut slots,
         cache: &mut cache,
-        check: &mut check,
+        window: &mut window,
     };
     accept(&g, &chip, &lent)?;
     let mut volume = Volume::new(g, &mut chip, lent);
     volume.mount()?;
-    volume.check().map_err(|_| "the check is refused")?;
+    volume.check(&mut check).map_err(|_| "the check is refused")?;
     // read, write, at once
     let fd = volume.open_file(b"file1", 8 | 16 | 32)?;
     let size = volume.fstat(fd)?.size;

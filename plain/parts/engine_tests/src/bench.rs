@@ -3,7 +3,7 @@
 use liverymenhir::fd_table::FdSlot;
 use liverymenhir::geometry::Geometry;
 use liverymenhir::nor_core::Failed;
-use liverymenhir::vol_mount::Lent;
+use liverymenhir::vol_mount::{Lent, ReaderLent};
 use rattle_host::alloc::Global;
 #[allow(unused_imports)]
 use rattle_host::prelude::*;
@@ -25,6 +25,7 @@ pub(crate) struct Memory {
     work: Vec<u8>,
     slots: Vec<FdSlot>,
     cache: Vec<u8>,
+    window: Vec<u8>,
     check: Vec<u8>,
 }
 
@@ -40,14 +41,25 @@ impl Memory {
             work: vec![in alloc; 0u8; g.work_need() as usize]?,
             slots: vec![in alloc; FdSlot::empty(); slots]?,
             cache: vec![in alloc; 0u8; g.cache_need() as usize]?,
+            window: vec![in alloc; 0u8; g.page() as usize]?,
             check: vec![in alloc; 0u8; g.check_need() as usize]?,
         })
     }
 
+    /// What is lent to a volume.
     pub(crate) fn lend(&mut self) -> Lent<'_> {
         Lent {
             work: &mut self.work,
             slots: &mut self.slots,
+            cache: &mut self.cache,
+            window: &mut self.window,
+        }
+    }
+
+    /// What is lent to a reader.
+    pub(crate) fn lend_reader(&mut self) -> ReaderLent<'_> {
+        ReaderLent {
+            work: &mut self.work,
             cache: &mut self.cache,
             check: &mut self.check,
         }

@@ -2,6 +2,7 @@
 
 use crate::bench::Memory;
 use crate::images::put;
+use crate::steps::check;
 use liverymenhir::geometry::{Geometry, MagicKind};
 use liverymenhir::table_model::FsErr;
 use liverymenhir::vol_mount::accept;
@@ -74,7 +75,7 @@ fn the_chip_of_a_row_that_fails_is_named_with(rt: HostRuntime) -> Result<(), Fai
     accept(&g, &row, &lent)?;
     let mut volume = Volume::new(g, &mut row, lent);
     volume.mount()?;
-    volume.check()?;
+    check(&mut volume)?;
     // 15 header pages go into each block, so 60 into the first chip
     for n in 1..61u8 {
         assert!(rt; volume.create(&[b'f', n]) == Ok(()));

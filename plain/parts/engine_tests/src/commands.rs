@@ -38,12 +38,14 @@ fn give<B: Board>(
     let mut slots = vec![in alloc; FdSlot::empty(); 3]?;
     let mut cache = vec![in alloc; 0u8; 16896]?;
     let mut check = vec![in alloc; 0u8; 8448]?;
+    let mut window = vec![in alloc; 0u8; 256]?;
     let mut line = vec![in alloc; 0u8; 12288]?;
     let mut bufs = Buffers {
         work: &mut work,
         slots: &mut slots,
         cache: &mut cache,
         check: &mut check,
+        window: &mut window,
         line: &mut line,
     };
     Ok(spiffs_tool(&words, board, &mut source, folder, &mut bufs))

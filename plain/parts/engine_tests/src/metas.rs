@@ -4,7 +4,7 @@ use crate::bench::{Memory, board_of};
 use crate::images::{filed, put};
 use liverymenhir::geometry::{Geometry, MagicKind};
 use liverymenhir::nor_core::Failed;
-use liverymenhir::vol_mount::accept;
+use liverymenhir::vol_mount::accept_reader;
 use rattle_host::alloc::Global;
 use rattle_host::assert;
 #[allow(unused_imports)]
@@ -40,8 +40,8 @@ fn guessed(
 ) -> Result<Result<(Counts, Guess), Failed>, Fail> {
     let g = volume_by(meta)?;
     let mut memory = Memory::new(alloc, &g)?;
-    let lent = memory.lend();
-    accept(&g, board, &lent)?;
+    let lent = memory.lend_reader();
+    accept_reader(&g, board, &lent)?;
     let work = lent.work;
     let cache = lent.cache;
     let marks = lent.check;

@@ -2,6 +2,7 @@
 
 use crate::bench::{Memory, board_of};
 use crate::images::{filed, small};
+use crate::steps::check;
 use liverymenhir::table_model::FsErr;
 use liverymenhir::vol_mount::accept;
 use liverymenhir::volume::Volume;
@@ -25,7 +26,7 @@ fn a_name_on_a_volume_has_from_1_to_31_bytes_with(rt: HostRuntime) -> Result<(),
     accept(&g, &board, &lent)?;
     let mut volume = Volume::new(g, &mut board, lent);
     volume.mount()?;
-    volume.check()?;
+    check(&mut volume)?;
     let long = [b'n'; 32];
     for (name, told) in [
         (b"".as_slice(), Err(FsErr::BadName)),
@@ -56,14 +57,14 @@ fn a_volume_whose_chip_failed_takes_no_call_with(rt: HostRuntime) -> Result<(), 
     accept(&g, &board, &lent)?;
     let mut volume = Volume::new(g, &mut board, lent);
     volume.mount()?;
-    volume.check()?;
+    check(&mut volume)?;
     assert!(rt; volume.create(b"a") == Ok(()));
     assert!(rt; !volume.has_failed());
     assert!(rt; volume.create(b"b") == Err(FsErr::DeviceFault));
     assert!(rt; volume.has_failed());
     assert!(rt; volume.create(b"c") == Err(FsErr::Failed));
     volume.mount()?;
-    volume.check()?;
+    check(&mut volume)?;
     assert!(rt; volume.stat(b"a").is_ok());
     assert!(rt; matches!(volume.stat(b"b"), Err(FsErr::NotFound)));
     Ok(())
@@ -84,7 +85,7 @@ fn a_volume_of_one_free_block_is_read_with(rt: HostRuntime) -> Result<(), Fail> 
     accept(&g, &board, &lent)?;
     let mut volume = Volume::new(g, &mut board, lent);
     volume.mount()?;
-    volume.check()?;
+    check(&mut volume)?;
     let mut bytes = [7u8; 4];
     assert!(rt; volume.open_file(b"ba", 8) == Ok(1));
     assert!(rt; volume.read(1, &mut bytes) == Ok(4));

@@ -6,7 +6,7 @@ use crate::steps::{Step, go};
 use liverymenhir::flash_view::View;
 use liverymenhir::geometry::{Geometry, MagicKind};
 use liverymenhir::table_model::FsErr;
-use liverymenhir::vol_mount::{Lent, accept};
+use liverymenhir::vol_mount::{ReaderLent, accept_reader};
 use liverymenhir::volume::{Scrub, Space};
 use liverymenhir::wear_scrub::scrub_step;
 use rattle_host::alloc::{AllocError, Global};
@@ -198,9 +198,9 @@ fn a_scrub_step_of_a_view_without_counts_moves_the_same_blocks_with(
     let g = wide()?;
     let mut board = board_of(alloc, &g, &worn(alloc, &g)?)?;
     let mut memory = Memory::new(alloc, &g)?;
-    let lent = memory.lend();
-    accept(&g, &board, &lent)?;
-    let Lent { work, cache, .. } = lent;
+    let lent = memory.lend_reader();
+    accept_reader(&g, &board, &lent)?;
+    let ReaderLent { work, cache, .. } = lent;
     let mut v = View::new(g, &mut board, work, &mut [], cache);
     for (limit, told) in [
         (6, Scrub::Rested),

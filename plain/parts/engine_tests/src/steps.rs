@@ -3,9 +3,10 @@
 use crate::bench::Memory;
 use crate::images::has_erases;
 use liverymenhir::geometry::Geometry;
+use liverymenhir::nor_core::Nor;
 use liverymenhir::table_model::{Call, FsErr, Whence};
 use liverymenhir::vol_mount::accept;
-use liverymenhir::volume::{MapErr, Scrub, Space, Told, Volume};
+use liverymenhir::volume::{CheckErr, MapErr, Report, Scrub, Space, Told, Volume};
 use rattle_host::alloc::Global;
 use rattle_host::assert;
 #[allow(unused_imports)]
@@ -72,12 +73,18 @@ pub(crate) enum Step<'t> {
     HasCounted,
 }
 
+/// Checks a volume, in bytes that are lent to that alone.
+pub(crate) fn check<N: Nor>(volume: &mut Volume<'_, N>) -> Result<Report, CheckErr> {
+    let mut marks = std::vec![0; volume.geometry.check_need() as usize];
+    volume.check(&mut marks)
+}
+
 // Whether a volume mounts, its check ends, and so many blocks are free.
 fn starts(volume: &mut Volume<'_, MemBoard>, free: u32) -> bool {
     let Ok(()) = volume.mount() else {
         return false;
     };
-    matches!(volume.check(), Ok(report) if report.free_blocks == free)
+    matches!(check(volume), Ok(report) if report.free_blocks == free)
 }
 
 // Whether a read into bytes of 7 tells that, and leaves these.
@@ -183,7 +190,7 @@ fn is_so(volume: &mut Volume<'_, MemBoard>, step: &Step<'_>) -> bool {
     match *step {
         Step::Starts(free) => starts(volume, free),
         Step::Mounts => volume.mount().is_ok(),
-        Step::Checks => volume.check().is_ok(),
+        Step::Checks => check(volume).is_ok(),
         Step::Creates(name, told) => volume.create(name) == told,
         Step::Opens(name, flags, told) => volume.open_file(name, flags) == told,
         Step::Removes(name, told) => volume.remove(name) == told,

@@ -6,7 +6,7 @@ use liverymenhir::file_read::read_at;
 use liverymenhir::flash_view::{StepErr, View};
 use liverymenhir::image_model::Damage;
 use liverymenhir::table_model::{Differ, FsErr, Tag};
-use liverymenhir::vol_mount::{Lent, Reader, accept};
+use liverymenhir::vol_mount::{Reader, ReaderLent, accept_reader};
 use rattle_host::assert;
 #[allow(unused_imports)]
 use rattle_host::prelude::*;
@@ -28,8 +28,8 @@ fn a_reader_tells_files_damage_and_bytes_with(rt: HostRuntime) -> Result<(), Fai
     put(&mut image, 526, &[0; 31]);
     let mut board = board_of(alloc, &g, &image)?;
     let mut memory = Memory::new(alloc, &g)?;
-    let lent = memory.lend();
-    accept(&g, &board, &lent)?;
+    let lent = memory.lend_reader();
+    accept_reader(&g, &board, &lent)?;
     let mut reader = Reader::new(g, &mut board, lent);
     reader.mount()?;
     let first = reader.next(0)?;
@@ -66,9 +66,9 @@ fn a_view_tells_a_page_that_is_gone_with(rt: HostRuntime) -> Result<(), Fail> {
     put(&mut image, 18 * 256 + 4, &[0x7C]);
     let mut board = board_of(alloc, &g, &image)?;
     let mut memory = Memory::new(alloc, &g)?;
-    let lent = memory.lend();
-    accept(&g, &board, &lent)?;
-    let Lent { work, cache, .. } = lent;
+    let lent = memory.lend_reader();
+    accept_reader(&g, &board, &lent)?;
+    let ReaderLent { work, cache, .. } = lent;
     let mut v = View::new(g, &mut board, work, &mut [], cache);
     let mut into = [7u8; 4];
     assert!(rt; read_at(&mut v, 1, 247, &mut into) == Ok(4));

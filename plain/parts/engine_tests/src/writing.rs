@@ -4,7 +4,7 @@ use crate::bench::{Memory, board_of};
 use crate::images::{filed, small};
 use crate::steps::{Step, go};
 use liverymenhir::table_model::FsErr;
-use liverymenhir::vol_mount::{Reader, accept};
+use liverymenhir::vol_mount::{Reader, accept_reader};
 use rattle_host::alloc::Global;
 use rattle_host::assert;
 #[allow(unused_imports)]
@@ -49,8 +49,8 @@ fn a_volume_that_is_unmounted_has_all_its_bytes_on_the_chip_with(
     ];
     go(&rt, alloc, &g, &mut board, &steps, Ok(()))?;
     let mut memory = Memory::new(alloc, &g)?;
-    let lent = memory.lend();
-    accept(&g, &board, &lent)?;
+    let lent = memory.lend_reader();
+    accept_reader(&g, &board, &lent)?;
     let mut reader = Reader::new(g, &mut board, lent);
     reader.mount()?;
     let mut into = [7u8; 9];

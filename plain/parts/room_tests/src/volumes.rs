@@ -17,6 +17,7 @@ struct Memory {
     slots: Vec<FdSlot>,
     cache: Vec<u8>,
     check: Vec<u8>,
+    window: Vec<u8>,
 }
 
 impl Memory {
@@ -26,16 +27,19 @@ impl Memory {
             slots: (0..2).map(|_| FdSlot::empty()).collect(),
             cache: vec![0; g.cache_need() as usize],
             check: vec![0; g.check_need() as usize],
+            window: vec![0; g.page() as usize],
         }
     }
 
-    fn lend(&mut self) -> Lent<'_> {
-        Lent {
+    // What is lent to a volume, and to its check.
+    fn lend(&mut self) -> (Lent<'_>, &mut [u8]) {
+        let lent = Lent {
             work: &mut self.work,
             slots: &mut self.slots,
             cache: &mut self.cache,
-            check: &mut self.check,
-        }
+            window: &mut self.window,
+        };
+        (lent, &mut self.check)
     }
 }
 
@@ -47,9 +51,10 @@ fn board_of(g: &Geometry, image: &[u8]) -> MemBoard {
 fn on_copy<T>(g: &Geometry, image: &[u8], run: impl FnOnce(&mut Volume<'_, MemBoard>) -> T) -> (T, Vec<u8>) {
     let mut board = board_of(g, image);
     let mut memory = Memory::new(g);
-    let mut volume = Volume::new(*g, &mut board, memory.lend());
+    let (lent, marks) = memory.lend();
+    let mut volume = Volume::new(*g, &mut board, lent);
     volume.mount().expect("mounts");
-    volume.check().expect("checked");
+    volume.check(marks).expect("checked");
     let told = run(&mut volume);
     volume.unmount().last.expect("written");
     (told, board.image().to_vec())

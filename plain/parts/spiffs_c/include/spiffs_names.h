@@ -207,7 +207,7 @@ SPIFFS_HAS_TO(sizeof(spiffs_obj_id) == 2 && sizeof(spiffs_page_ix) == 2 && sizeo
 #define SPIFFS_LOOKUP_PAGES(page, block) (2u * ((block) / (page)) < (page) ? 1u : 2u * ((block) / (page)) / (page))
 #define SPIFFS_CHECK_BYTES(page, block, blocks) ((blocks) * ((block) / (page)) + 8192u)
 #define SPIFFS_CACHE_BYTES(page, block, blocks, pages)                                                               \
-  (SPIFFS_WORK_BYTES(page, block, blocks) + SPIFFS_CHECK_BYTES(page, block, blocks) + (pages) * ((page) + 8u))
+  (SPIFFS_WORK_BYTES(page, block, blocks) + SPIFFS_CHECK_BYTES(page, block, blocks) + (page) + (pages) * ((page) + 8u))
 
 struct spiffs_t;
 #if SPIFFS_HAL_CALLBACK_EXTRA
@@ -363,13 +363,16 @@ static inline s32_t spiffs_names_begin(spiffs *fs, u8_t *fd_space, u32_t fd_spac
   spf_numbers numbers = spiffs_names_numbers(fs);
   u32_t skipped = (u32_t)(-(uintptr_t)fd_space & 3u);
   memset(&fs->memory, 0, sizeof fs->memory);
-  if (spf_needs_of(&numbers, &needs) == 0 && cache_size >= needs.work + needs.check && fd_space_size >= skipped) {
+  if (spf_needs_of(&numbers, &needs) == 0 && cache_size >= needs.work + needs.check + needs.window &&
+      fd_space_size >= skipped) {
     fs->memory.work = cache;
     fs->memory.work_size = needs.work;
     fs->memory.check = cache + needs.work;
     fs->memory.check_size = needs.check;
-    fs->memory.cache = cache + needs.work + needs.check;
-    fs->memory.cache_size = cache_size - needs.work - needs.check;
+    fs->memory.window = fs->memory.check + needs.check;
+    fs->memory.window_size = needs.window;
+    fs->memory.cache = fs->memory.window + needs.window;
+    fs->memory.cache_size = cache_size - needs.work - needs.check - needs.window;
     fs->memory.slots = (uint32_t *)(void *)(fd_space + skipped);
     fs->memory.slot_count = (fd_space_size - skipped) / needs.slot;
   }

@@ -146,6 +146,7 @@ struct Lent {
     slots: Vec<FdSlot>,
     cache: Vec<u8>,
     check: Vec<u8>,
+    window: Vec<u8>,
     line: Vec<u8>,
 }
 
@@ -156,6 +157,7 @@ impl Lent {
             slots: vec![FdSlot::empty(); SLOTS],
             cache: vec![0u8; g.cache_need() as usize * 64],
             check: vec![0u8; g.check_need() as usize],
+            window: vec![0u8; g.page() as usize],
             line: vec![0u8; 12288],
         }
     }
@@ -166,6 +168,7 @@ impl Lent {
             slots: &mut self.slots,
             cache: &mut self.cache,
             check: &mut self.check,
+            window: &mut self.window,
             line: &mut self.line,
         }
     }

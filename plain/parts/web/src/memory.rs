@@ -1,6 +1,7 @@
 //! Memory that is lent to a command, as much as the program lends.
 
-use liverymenhir::{FdSlot, Lent};
+use liverymenhir::FdSlot;
+use liverymenhir::vol_mount::ReaderLent;
 use spiffs::tool_parts::Buffers;
 
 /// The status where there is no memory.
@@ -13,6 +14,9 @@ const CHECK: usize = 131_072;
 /// Bytes of cache: enough for a frame of each of 65,535 pages of 4,096 bytes; and where there is no memory for them.
 const MOST_CACHE: usize = 301_989_888;
 const SMALL_CACHE: usize = 262_144;
+
+/// Bytes of the write window: the longest page.
+const WINDOW: usize = 4096;
 
 const LINE: usize = 12_288;
 const SLOTS: usize = 16;
@@ -30,6 +34,7 @@ pub struct Memory {
     slots: Vec<FdSlot>,
     cache: Vec<u8>,
     check: Vec<u8>,
+    window: Vec<u8>,
     line: Vec<u8>,
 }
 
@@ -45,6 +50,7 @@ impl Memory {
             work: filled(0, WORK)?,
             slots: vec![FdSlot::empty(); SLOTS],
             check: filled(0, CHECK)?,
+            window: filled(0, WINDOW)?,
             line: filled(0, LINE)?,
             cache: filled(0, cache_for(volume)).or_else(|| filled(0, SMALL_CACHE))?,
         })
@@ -57,15 +63,15 @@ impl Memory {
             slots: &mut self.slots,
             cache: &mut self.cache,
             check: &mut self.check,
+            window: &mut self.window,
             line: &mut self.line,
         }
     }
 
     /// Lends it to a reader.
-    pub fn lend_to_reader(&mut self) -> Lent<'_> {
-        Lent {
+    pub fn lend_to_reader(&mut self) -> ReaderLent<'_> {
+        ReaderLent {
             work: &mut self.work,
-            slots: &mut self.slots,
             cache: &mut self.cache,
             check: &mut self.check,
         }

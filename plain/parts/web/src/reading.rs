@@ -3,8 +3,8 @@
 use crate::chip::Chip;
 use crate::memory::{Memory, NO_MEMORY, filled};
 use crate::tools::chip_for;
-use liverymenhir::vol_mount::Reader;
-use liverymenhir::{Geometry, Nor, accept};
+use liverymenhir::vol_mount::{Reader, accept_reader};
+use liverymenhir::{Geometry, Nor};
 use rattle_host::prelude::String;
 use spiffs::tool_parts::read_numbers;
 
@@ -21,7 +21,7 @@ pub fn geometry_of(words: &[String]) -> Option<Geometry> {
 fn bytes_of(g: Geometry, chip: &mut Chip<'_>, id: u16) -> Result<Vec<u8>, u8> {
     let mut memory = Memory::new(chip.size()).ok_or(NO_MEMORY)?;
     let lent = memory.lend_to_reader();
-    accept(&g, chip, &lent).map_err(|_| UNREAD)?;
+    accept_reader(&g, chip, &lent).map_err(|_| UNREAD)?;
     let mut reader = Reader::new(g, chip, lent);
     reader.mount().map_err(|_| UNREAD)?;
     let before = id.checked_sub(1).ok_or(UNREAD)?;

@@ -7,4 +7,4 @@ use Rattle.file_find.proofs.ids.name_number.Goals as goal
 pub returns : goal.returns
 unfolding name_number
 returns c =
-    ap (λ (h : ℕ). 0x8000 + h) (c.loop-byte.invariant.is ∙ ap (λ (xs : List ℕ). fold (λ (h b : ℕ). (31 * h + b) % 0x8000) 0 xs) (take_all c.loop-byte.byte-index c.args.name.now (omega (arith, c.loop-byte-test.false))))
+    ap (λ (h : ℕ). 0x8000 + h) (c.loop-byte.invariant.is ∙ ap (λ (xs : List ℕ). fold (λ (h b : ℕ). (101 * h + b) % 0x8000) 0 xs) (take_all c.loop-byte.byte-index c.args.name.now (omega (arith, c.loop-byte-test.false))))

@@ -1,14 +1,19 @@
-use Rattle.std.proofs.Common.{◌∙◌, ◌+◌, ◌%◌, ◌/◌, sym, refl, arith}
-use Rattle.flash_view.proofs.Stepped.{view_image}
-use Rattle.file_write.proofs.TailLooks.{ones_told}
+use Rattle.std.proofs.Common.{sym, ◌∙◌}
+use Rattle.file_write.proofs.TailLooks.{ones_none, other_none}
 use Rattle.file_write.proofs.tails.has_clean_bytes.Goals as goal
 
-pub returns-then-span-gt65535-clause-other : goal.returns-then-span-gt65535-clause-other
-returns-then-span-gt65535-clause-other g c = λ tells tidy q number inside few. absurd (let far = rw c.body-2.ensures at c.if-span-gt65535.true in omega (arith, far, few))
+pub returns-in-Some-clause-told : goal.returns-in-Some-clause-told
+returns-in-Some-clause-told g c = λ tells tidy.
+    let found = c.in_ok-header.ensures in
+    rw (found.looks.same.geometry, found.looks.reads.bytes) at (c.is_clean_by.ensures.told (found.looks.reads.told tells) (rw (found.looks.same.geometry, found.looks.reads.bytes) tidy) (rw (found.looks.same.geometry, found.looks.reads.bytes) (sym (found.told tells tidy) ∙ c.in-Some.is)))
 
-pub returns-clause-told : goal.returns-clause-told
-returns-clause-told g c = λ tells tidy.
-    let looks = c.in_ok-page.ensures.looks in
-    let told = c.ends_in_ones.ensures.told (looks.reads.told tells) in
-    ones_told c.args.v.now.geometry (g.N.NorState.bytes c.args.v.now.nor.now) c.args.id c.args.size c.in-Some.page (c.args.size / c.body-2.result) (5 + c.args.size % c.body.result) c.ends_in_ones.result (view_image c.args.v.now (g.met.N.Nor.sized _) tells)
-    (sym c.in-Some.is ∙ c.in_ok-page.ensures.told tells tidy) (rw c.body-2.ensures refl) (rw c.body.ensures refl) (rw looks.same.geometry at (rw looks.reads.bytes at told))
+pub returns-in-Some-clause-other : goal.returns-in-Some-clause-other
+returns-in-Some-clause-other g c = λ tells tidy.
+    let found = c.in_ok-header.ensures in
+    rw (found.looks.same.geometry, found.looks.reads.bytes) at (c.is_clean_by.ensures.other (found.looks.reads.told tells) (rw (found.looks.same.geometry, found.looks.reads.bytes) tidy) (rw (found.looks.same.geometry, found.looks.reads.bytes) (sym (found.told tells tidy) ∙ c.in-Some.is)))
+
+pub returns-in-None-clause-told : goal.returns-in-None-clause-told
+returns-in-None-clause-told g c = λ tells tidy. ones_none _ _ _ _ (sym (c.in_ok-header.ensures.told tells tidy) ∙ c.in-None.is) _
+
+pub returns-in-None-clause-other : goal.returns-in-None-clause-other
+returns-in-None-clause-other g c = λ tells tidy. other_none _ _ _ _ (sym (c.in_ok-header.ensures.told tells tidy) ∙ c.in-None.is) _

@@ -1,7 +1,7 @@
 use Rattle.std.proofs.Common.{◌≡◌, ◌<◌, rules, arith}
 use Rattle.free_search.specs.Free.{worn_with, worn_by_row}
 use Rattle.free_search.proofs.Rowed.{row_worn, row_below}
-use Rattle.free_search.proofs.Worn.{worn_more, worn_over, worn_all}
+use Rattle.free_search.proofs.Worn.{worn_more, worn_over, worn_all, worn_new}
 use Rattle.free_search.proofs.pages.least_by_rows.Goals.{then-ne, else-ne}
 use Rattle.free_search.proofs.pages.least_by_rows.Goals as goal
 
@@ -28,12 +28,21 @@ loop-block-preserved c =
       }
     ]
 
+pub returns-then-is_unworn-clause-below : goal.returns-then-is_unworn-clause-below
+returns-then-is_unworn-clause-below c = let low = c.loop-block.invariant.below in let found = c.map.ensures in search rules
+
+pub returns-then-is_unworn-clause-told : goal.returns-then-is_unworn-clause-told
+returns-then-is_unworn-clause-told c at image table same all =
+    let best = worn_new at image c.args.not_in c.loop-block.block c.loop-block.least (omega (arith, all, c.loop-block-test.true)) (rw c.if-is_unworn.true at c.is_unworn.ensures) (c.loop-block.invariant.told at image table same all) in
+    let found = c.map.ensures in
+    search rules
+
 pub returns-clause-below : goal.returns-clause-below
-returns-clause-below c = let low = c.loop-block.invariant.below in let found = c.map.ensures in search rules
+returns-clause-below c = let low = c.loop-block.invariant.below in let found = c.map-2.ensures in search rules
 
 pub returns-clause-told : goal.returns-clause-told
 returns-clause-told c at image table same all =
     let end : c.loop-block.block ≡ at.blocks = omega (arith, all, c.loop-block-test.false, c.loop-block.auto.block-end) in
     let best = worn_all at image c.args.not_in c.loop-block.block c.loop-block.least end (c.loop-block.invariant.told at image table same all) in
-    let found = c.map.ensures in
+    let found = c.map-2.ensures in
     search rules

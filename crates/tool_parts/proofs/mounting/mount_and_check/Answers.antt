@@ -20,7 +20,7 @@ pub returns-in-Err-check-clause-changes : goal.returns-in-Err-check-clause-chang
 returns-in-Err-check-clause-changes g c = check_changes c.mount.new.self.geometry c.mount.ensures.same.geometry c.mount.ensures.looks c.check.ensures.checks.changes
 
 pub returns-in-Err-check-clause-stops : goal.returns-in-Err-check-clause-stops
-returns-in-Err-check-clause-stops g c = λ tells. rw c.check_ending.ensures.ends (check_stops c.in-Err-check.why c.mount.new.self.geometry c.mount.ensures.same.geometry (c.in-Err-check.ensures.checks.writable (ap write_refusal c.mount.ensures.same.geometry ∙ c.requires)) c.mount.ensures.looks (search rules) c.in-Err-check.ensures.checks.refused (λ over. c.in-Err-check.ensures.checks.spared (c.mount.ensures.looks.told tells) (inr over)) (c.in-Err-check.ensures.checks.mixed (c.mount.ensures.looks.told tells)) (c.in-Err-check.ensures.checks.undamaged (c.mount.ensures.looks.told tells)))
+returns-in-Err-check-clause-stops g c = λ tells. rw c.check_ending.ensures.ends (check_stops c.in-Err-check.why c.mount.new.self.geometry c.mount.ensures.same.geometry (c.in-Err-check.ensures.checks.writable (ap write_refusal c.mount.ensures.same.geometry ∙ c.requires.writable)) c.mount.ensures.looks (search rules) c.in-Err-check.ensures.checks.refused (λ over. c.in-Err-check.ensures.checks.spared (c.mount.ensures.looks.told tells) (inr over)) (c.in-Err-check.ensures.checks.mixed (c.mount.ensures.looks.told tells)) (c.in-Err-check.ensures.checks.undamaged (c.mount.ensures.looks.told tells)))
 
 pub returns-in-Err-clause-idle : goal.returns-in-Err-clause-idle
 returns-in-Err-clause-idle g c = λ tells tidy reserve. c.mount.ensures.looks
@@ -36,5 +36,5 @@ returns-in-Err-clause-among g c = rw c.mount_ending.ensures.ends (mount_among c.
 
 pub returns-in-Err-check-clause-among : goal.returns-in-Err-check-clause-among
 returns-in-Err-check-clause-among g c =
-    let writable = c.in-Err-check.ensures.checks.writable (ap write_refusal c.mount.ensures.same.geometry ∙ c.requires) in
+    let writable = c.in-Err-check.ensures.checks.writable (ap write_refusal c.mount.ensures.same.geometry ∙ c.requires.writable) in
     rw c.check_ending.ensures.ends (check_among c.in-Err-check.why writable c.in-Err-check.ensures.checks.apart)

@@ -1,4 +1,4 @@
-use Rattle.std.proofs.Common.{None, Ok, Some, arith}
+use Rattle.std.proofs.Common.{◌≡◌, ◌+◌, ◌∙◌, None, Ok, Some, arith}
 use Rattle.geometry.specs.Numbers.{page_count}
 use Rattle.geometry.proofs.Bounds.{few_pages}
 use Rattle.flash_view.specs.Walk.{NextLive}
@@ -6,7 +6,7 @@ use Rattle.flash_view.proofs.Passed.{passed_used}
 use Rattle.vol_check.specs.Works.{Worked}
 use Rattle.vol_check.proofs.Working.{look_works, look_stops, read_stops, works_seen, works_end, works_stop}
 use Rattle.vol_check.proofs.Passing.{from_bool_is}
-use Rattle.vol_check.proofs.Resting.{dead_served, standing_at, resting_start, resting_skip, resting_next, resting_end}
+use Rattle.vol_check.proofs.Resting.{dead_served, standing_at, resting_start, resting_skip, resting_next, resting_marked, resting_end}
 use Rattle.vol_check.proofs.Walks.{found_live}
 use Rattle.vol_check.proofs.unwanted.cull_rest.Given.{Over}
 use Rattle.vol_check.proofs.unwanted.cull_rest.Goals as goal
@@ -43,19 +43,23 @@ returns-in_err-cull_unmarked-clause-work g c =
 pub pages-smaller : goal.pages-smaller
 pages-smaller g c =
     let inside = rw (c.in-Some.is, c.pages.invariant.work.step.framed.same.geometry) at c.in_ok-page.ensures.inside in
-    omega (arith, inside.0, inside.1.below, c.from-at.ensures)
+    omega (arith, inside.0, inside.1.below, c.next_unmarked-at.ensures.low, c.next_unmarked-at.ensures.high)
 
 pub pages-preserved : goal.pages-preserved
 pages-preserved g c =
     let was = c.pages.invariant in
     let inside = rw (c.in-Some.is, was.work.step.framed.same.geometry) at c.in_ok-page.ensures.inside in
     let more = from_bool_is c.in_ok-cull_unmarked.field-0 in
+    let behind = c.next_unmarked-at.ensures in
+    let same : c.cull_unmarked.new.v.geometry ≡ c.args.v.now.geometry = c.in_ok-cull_unmarked.ensures.step.framed.same.geometry ∙ c.in_ok-page.ensures.looks.same.geometry ∙ was.work.step.framed.same.geometry in
     record {
-      few = omega (arith, inside.0, more.1, was.few, c.from.ensures, c.from-at.ensures);
-      most = omega (arith, inside.1.below, c.from-at.ensures);
+      few = omega (arith, inside.0, more.1, was.few, c.from.ensures, behind.low);
+      most = rw same at behind.high;
       work = works_end (stands g (goal.at.pages-preserved g c).In-Some) c.in_ok-cull_unmarked.ensures (λ tells magics settled. record { needs = settled; idle = λ quiet. quiet })
           (λ tells magics settled before. record { needs = (before.resting.settled, rw c.from.ensures (before.resting.marked c.in-Some.page (omega arith) inside.1.below), before.live); idle = λ quiet. quiet c.in-Some.page })
-          (λ tells magics need before kept turn. rw c.from-at.ensures (resting_next _ _ _ _ _ _ _ _ _ before.resting turn (omega (arith, more.0, c.from.ensures))));
+          (λ tells magics need before kept turn.
+          resting_marked _ _ _ _ (c.in-Some.page + 1) _ _ (omega (arith, behind.low)) (rw same at behind.high) (λ q low high. behind.passed q (omega (arith, low)) high)
+          (resting_next _ _ _ _ _ _ _ _ _ before.resting turn (omega (arith, more.0, c.from.ensures))));
     }
 
 pub returns-clause-most : goal.returns-clause-most

@@ -11,7 +11,6 @@ returns-in-Ok-next_on-clause-same g c =
       nor_name = first.nor_name;
       work_name = first.work_name;
       cache_name = first.cache_name;
-      slots_name = first.slots_name;
       check_name = first.check_name;
       cache_size = c.next_on.auto.cache ∙ first.cache_size;
       known = first.known;

@@ -41,6 +41,6 @@ returns-in-Ok-id_of g c =
     let new = c.attach_settled.new.self in
     let off : is_attached mid ≡ false = sym c.is_attached.ensures ∙ c.if-is_attached.false in
     let told : (m : Moment) → Holds new (settled_at m.state) → id_at c.args.fd m.state ≡ Ok c.in-Ok-id_of.id = λ m here. c.id_of.ensures.told m.state (slots_in new m here ∙ ap (λ (l : List FdSlot). descriptors l) done.slots) ∙ c.in-Ok-id_of.is in
-    filled_attach done.looks done.same done.slots (rw (done.held, done.check) refl) c.in-Ok.had c.settled.result c.in-Ok.is c.settled.ensures.closed c.settled.ensures.settles c.settled.ensures.still
+    filled_attach done.looks done.same done.slots (rw (done.held, done.window) refl) c.in-Ok.had c.settled.result c.in-Ok.is c.settled.ensures.closed c.settled.ensures.settles c.settled.ensures.still
     (id_at c.args.fd) c.in-Ok-id_of.id c.args.first (length c.args.numbers.now) c.attach_settled.result (λ m takes here. rw c.in-Ok.is at (c.settled.ensures.map m takes here)) off done.stage done.done done.back done.none done.why
     (λ m here used is. told m here) (λ m here none. absurd (open_in new m c.args.fd c.in-Ok-id_of.id here (told m here) none))

@@ -23,6 +23,6 @@ returns-else-is_attached g c =
     let done = c.attach_settled.ensures in
     let new = c.attach_settled.new.self in
     let off : is_attached mid ≡ false = sym c.is_attached.ensures ∙ c.if-is_attached.false in
-    filled_attach done.looks done.same done.slots (rw (done.held, done.check) refl) c.in-Ok.had c.settled.result c.in-Ok.is c.settled.ensures.closed c.settled.ensures.settles c.settled.ensures.still
+    filled_attach done.looks done.same done.slots (rw (done.held, done.window) refl) c.in-Ok.had c.settled.result c.in-Ok.is c.settled.ensures.closed c.settled.ensures.settles c.settled.ensures.still
     (id_in c.args.id) c.args.id c.args.first (length c.args.numbers.now) c.attach_settled.result (λ m takes here. rw c.in-Ok.is at (c.settled.ensures.map m takes here)) off done.stage done.done done.back done.none done.why
     (λ m here used is. listed_in new m c.args.id here used is) (λ m here none. missing_in new m c.args.id here none)

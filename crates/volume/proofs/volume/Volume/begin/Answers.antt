@@ -12,14 +12,14 @@ use Rattle.volume.proofs.volume.Volume.begin.Goals as goal
 pub returns-then-not-is_used-clause-settles : goal.returns-then-not-is_used-clause-settles
 returns-then-not-is_used-clause-settles g c =
     let v = c.args.self.now in
-    let free : v.held.used ≡ false = used_is v.held v.check.now c.is_used.result (c.is_used.ensures v.check.now) ∙ c.if-not-is_used.true in
+    let free : v.held.used ≡ false = used_is v.held v.window.now c.is_used.result (c.is_used.ensures v.window.now) ∙ c.if-not-is_used.true in
     let none : (memory v).run ≡ None = rw free refl in
     settles_none v none
 
 pub settle_on-result-requires-clause-used : goal.settle_on-result-requires-clause-used
 settle_on-result-requires-clause-used g c =
     let v = c.args.self.now in
-    used_is v.held v.check.now c.is_used.result (c.is_used.ensures v.check.now) ∙ c.if-not-is_used.false
+    used_is v.held v.window.now c.is_used.result (c.is_used.ensures v.window.now) ∙ c.if-not-is_used.false
 
 pub invariant_of-self-clause-unit : goal.invariant_of-self-clause-unit
 invariant_of-self-clause-unit g c =
@@ -56,16 +56,16 @@ invariant_of-self-in-Err-clause-magics g c = λ mounted. absurd (let no : true �
 pub returns-in-Ok-clause-settles : goal.returns-in-Ok-clause-settles
 returns-in-Ok-clause-settles g c =
     let v = c.args.self.now in
-    let used : v.held.used ≡ true = used_is v.held v.check.now c.is_used.result (c.is_used.ensures v.check.now) ∙ c.if-not-is_used.false in
-    settles_done (run_of v.held v.check.now) (run_used v.held v.check.now used) c.settle_on-result.result.wrote (search rules) refl (rw c.in-Ok.is at c.settle_on-result.ensures.writes) (c.none-self.ensures.empty v.check.now) refl
+    let used : v.held.used ≡ true = used_is v.held v.window.now c.is_used.result (c.is_used.ensures v.window.now) ∙ c.if-not-is_used.false in
+    settles_done (run_of v.held v.window.now) (run_used v.held v.window.now used) c.settle_on-result.result.wrote (search rules) refl (rw c.in-Ok.is at c.settle_on-result.ensures.writes) (c.none-self.ensures.empty v.window.now) refl
 
 pub returns-in-Err-clause-settles : goal.returns-in-Err-clause-settles
 returns-in-Err-clause-settles g c =
     let v = c.args.self.now in
-    let used : v.held.used ≡ true = used_is v.held v.check.now c.is_used.result (c.is_used.ensures v.check.now) ∙ c.if-not-is_used.false in
+    let used : v.held.used ≡ true = used_is v.held v.window.now c.is_used.result (c.is_used.ensures v.window.now) ∙ c.if-not-is_used.false in
     let why = c.in-Err.why in
     let staged = staged_by v.stage _ c.settle_on-result.result.wrote (Refuses why) (breaks (Refuses why)) (open_is v.stage c.requires) refl c.stage_at-self.ensures in
-    settles_failed (run_of v.held v.check.now) (run_used v.held v.check.now used) c.settle_on-result.result.wrote (search rules) refl why (rw c.in-Err.is at c.settle_on-result.ensures.writes) c.settle_on-result.ensures.asked refl staged
+    settles_failed (run_of v.held v.window.now) (run_used v.held v.window.now used) c.settle_on-result.result.wrote (search rules) refl why (rw c.in-Err.is at c.settle_on-result.ensures.writes) c.settle_on-result.ensures.asked refl staged
 
 pub invariant_of-self-clause-mapped : goal.invariant_of-self-clause-mapped
 invariant_of-self-clause-mapped g c = known_stays c.args.self.now.map c.known-self.result c.settle_on-result.result.wrote c.args.self.now.mapped (c.settle_on-result.ensures.writes any_file).untouched c.known-self.ensures

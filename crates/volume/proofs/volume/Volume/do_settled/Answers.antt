@@ -19,7 +19,7 @@ returns-clause-same g c =
       work_name = search rules;
       cache_name = search rules;
       slots_name = search rules;
-      check_name = search rules;
+      window_name = search rules;
       cache_size = did.cache_size;
       behind = did.behind;
       faults = did.faults;
@@ -32,7 +32,7 @@ returns-clause-acts g c =
     let after = c.refill.ensures in
     record {
       wrote = c.call_on-told.result.wrote;
-      acts = rw (after.slots, after.held, after.check) (acts_on after.looks did.acts);
+      acts = rw (after.slots, after.held, after.window) (acts_on after.looks did.acts);
       asked = λ w. let rose = did.asked w in omega (arith, rose, after.looks.writes);
       stage = after.stage ∙ c.stage_after-self.ensures c.call_on-told.new.into ∙ ap (λ (b : Bool). stage_after b (shown_by c.call_on-told.result.told c.call_on-told.new.into)) (elim c.if-had.branch [
         | then-had w ↦ let both : (c.args.had || c.call_on-told.result.wrote) ≡ true = rw w.if-had.true refl in w.stage_after-is ∙ w.if-had.true ∙ sym both

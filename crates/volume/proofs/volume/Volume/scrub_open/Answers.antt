@@ -11,6 +11,6 @@ returns-in-Ok g c =
     let begun = rw c.in-Ok.is at c.begin.ensures.settles in
     let made = c.scrub_settled-result.ensures in
     let after = c.refill.ensures in
-    let did = scrubs_read made.scrubs after.looks after.slots (rw (after.held, after.check) refl) after.stage in
+    let did = scrubs_read made.scrubs after.looks after.slots (rw (after.held, after.window) refl) after.stage in
     let keeps = scrub_keeps made.scrubs c.begin.ensures.room made.room after.room c.begin.ensures.map made.map (faults_then begun.same made.same) after.still after.none after.lost after.is in
     scrubs_by c.args.limit c.in-Ok.had c.requires.takes begun (same_then made.same after.same) begun.done.1 c.scrub_settled-result.result did keeps
