@@ -1,28 +1,28 @@
 -- A batch that is moved: where nothing is programmed yet, and its steps one after the other.
-use Rattle.std.proofs.Common.{◌≡◌, ◌≢◌, ℕ, ◌+◌, ◌<◌, ◌≤◌, List, [], ◌∷◌, ◌++◌, length, reverse, take, Option, Some, None, refl, sym, ◌∙◌, ap, subst, arith, ⊎_elim, inl, inr, ◌⊎◌, ◌*◌, true, false, Bool, ◌||◌}
-use Rattle.std.specs.Prelude.{All, IsSome, min}
+use Rattle.std.proofs.Common.{◌≡◌, ◌≢◌, ℕ, ◌+◌, ◌<◌, ◌≤◌, List, [], ◌∷◌, length, Some, Result, Ok, Err, OnOk, refl, sym, ◌∙◌, ap, subst, arith, ⊎_elim, inl, inr, ◌⊎◌, ◌*◌, true, false, Bool, ◌||◌}
+use Rattle.std.specs.Prelude.{All}
 use Rattle.std.proofs.lemmas.Bool.{cases_eq, eq-eqb}
 use Rattle.geometry.specs.Numbers.{per_block, lookups, entries}
 use Rattle.image_model.specs.Within.{entry_of_block}
 use Rattle.image_laws.proofs.Frames.{live_parts}
-use Rattle.std.proofs.lemmas.List.Elements.{All-append}
-use Rattle.std.proofs.lemmas.List.{length-map, length-reverse, reverse-append, take_all}
+use Rattle.std.proofs.lemmas.List.{length-map}
 use Rattle.geometry.specs.declared.geometry.Geometry.{Geometry}
 use Rattle.image_model.specs.Live.{live_at}
 use Rattle.image_model.specs.Places.{block_of}
 use Rattle.room_laws.specs.Sorts.{sort_at}
 use Rattle.room_laws.specs.Ways.{HasCome}
 use Rattle.room_laws.proofs.Batches.{IsOut, outs}
-use Rattle.room_laws.proofs.OnTheWay.{all_at, all_cons, all_nil, all_head, all_tail}
+use Rattle.room_laws.proofs.OnTheWay.{all_at, all_cons, all_head}
 use Rattle.nor_core.specs.declared.state.NorState.{Ghosts as NorOf}
-use Rattle.flash_view.specs.Places.{IsEntryPage}
 use Rattle.flash_view.specs.declared.view.View.{View}
-use Rattle.flash_view.specs.Steps.{Begins, Finishes, IsRebuilt}
+use Rattle.flash_view.specs.Same.{OnlyLooks}
+use Rattle.flash_view.specs.Steps.{Step, Errors, Stepped, Begins, Finishes}
+use Rattle.flash_view.proofs.Stepped.{after_look}
 use Rattle.page_renew.specs.Built.{IsNamed}
 use Rattle.block_gc.specs.Turns.{TurnCut}
 use Rattle.block_gc.specs.declared.batch.Batch.{Batch}
-use Rattle.block_gc.specs.declared.batch.Carried.{Carried}
-use Rattle.block_gc.specs.Batches.{move_of, moves_of, are_from, AreEntries, HasMore, IsOfBatch, Carries, CanCarry, CanCarryTo, CarriesTo, carrying_to, carrying, carrying_turn, carrying_rest, carrying_all, AreNamed}
+use Rattle.block_gc.specs.declared.batch.Run.{Run}
+use Rattle.block_gc.specs.Batches.{Carried, move_of, moves_of, are_from, IsFalling, IsRun, IsOfBatch, Carries, CanCarry, CanCarryTo, CarriesTo, EndsRun, CanMoveFrom, carrying_to, carrying, carrying_turn, carrying_batch, AreNamed}
 use Rattle.block_gc.proofs.BatchCopies.{carrying_cut, named_moves}
 
 -- where nothing more is programmed the image recovers
@@ -32,34 +32,23 @@ carry_stays g was image block most batch cs c =
     let few = c.few in
     carrying_cut g was image block most batch c.index (moves_of cs) (record { are = c.carrying.are; ways = c.carrying.ways; way = c.carrying.way }) c.keeps (named_moves g was image batch c.index cs c.pages) (omega (arith, l, few))
 
--- the list with one more, from the back
-pub one_more : (xs : List Carried) (c : Carried) → reverse (xs ++ c ∷ []) ≡ c ∷ reverse xs
-one_more xs c = reverse-append xs (c ∷ [])
+-- what holds where a call is done
+pub ok_then : {T E : Type 0} (r : Result T E) (P Q : Type 0) → (P → Q) → OnOk r P → OnOk r Q
+ok_then (Ok x) P Q f h = f h
+ok_then (Err e) P Q f h = tt
 
--- one more entry page
-pub more_entries : (g : Geometry) (old new : List Carried) (c : Carried) → new ≡ old ++ c ∷ [] → AreEntries g old → IsEntryPage g c.from → AreEntries g new
-more_entries g old new c is all one = subst (AreEntries g) (sym is) (All-append (λ (d : Carried). IsEntryPage g d.from) old (c ∷ []) all (all_cons (λ (d : Carried). IsEntryPage g d.from) c [] one (all_nil (λ (d : Carried). IsEntryPage g d.from))))
+-- ---- one more copy
 
-all_init : {X : Type 0} (P : X → Type 0) (xs : List X) (x : X) → All P (xs ++ x ∷ []) → P x × All P xs
-all_init P [] x all = (all_head P x [] all, all_nil P)
-all_init P (y ∷ xs) x all = let rest = all_init P xs x (all_tail P y (xs ++ x ∷ []) all) in (rest.0, all_cons P y xs (all_head P y (xs ++ x ∷ []) all) rest.1)
+-- the same step after a look
+pub after_looks : {N T E : Type 0} {nor : NorOf N} {errors : Errors E} {old mid new : View N nor} {r : Result T E} {step : Step T} → OnlyLooks old mid → Stepped errors mid new r step → Stepped errors old new r step
+after_looks looks call = after_look looks call (λ tells need. record { needs = need; cut = λ c cut. cut; done = λ c ok done. done })
 
--- the last one, and the others
-pub last_entry : (g : Geometry) (old new : List Carried) (c : Carried) → old ≡ new ++ c ∷ [] → AreEntries g old → IsEntryPage g c.from × AreEntries g new
-last_entry g old new c is all = all_init (λ (d : Carried). IsEntryPage g d.from) new c (subst (AreEntries g) is all)
+-- it is put at a place that was found
+pub carry_begins : (g : Geometry) (was image : List ℕ) (block most : ℕ) (batch : Batch) (q to span : ℕ) → (cs : List Carried) × CanCarry g was block most batch cs q span image →
+    ((cs : List Carried) → CanCarry g was block most batch cs q span image → CanCarryTo g was block most batch cs q to span image) → Begins g image (carrying_to was block most batch q to span) (carrying was block most batch q span)
+carry_begins g was image block most batch q to span need place = record { needs = (need.0, place need.0 need.1); cut = λ d cut. cut }
 
-pub carry_ends : (g : Geometry) (was image : List ℕ) (block most : ℕ) (batch : Batch) (old new : List Carried) (q to span : ℕ) → new ≡ old ++ record { from = q; to = to; span = span } ∷ [] →
-    CanCarryTo g was block most batch (reverse old) q to span image → Finishes g image image (carrying_to was block most batch (reverse old) q to span) (carrying was block most batch old new q span)
-carry_ends g was image block most batch old new q to span is can = record {
-  needs = can;
-  cut = λ d cut. cut;
-  done = λ d ok done. (
-    subst (λ (cs : List Carried). Carries g was block most batch cs d) (sym (ap reverse is ∙ one_more old (record { from = q; to = to; span = span }))) done,
-    record { more = record { from = q; to = to; span = span }; from = refl; list = is },
-  );
-}
-
--- ---- the pages behind the first one
+-- ---- the pages in their turns
 
 from_this : (cs : List Carried) (c : Carried) (r : ℕ) → r ≡ c.from → are_from (c ∷ cs) r ≡ true
 from_this cs c r is = rw (eq-eqb r c.from is) (or_true (are_from cs r))
@@ -69,23 +58,21 @@ from_this cs c r is = rw (eq-eqb r c.from is) (or_true (are_from cs r))
     or_true false = refl
 
 -- one more page had its turn
-full_on : (g : Geometry) (was : List ℕ) (block most : ℕ) (batch : Batch) (page q r span : ℕ) (cs : List Carried) → ((span : ℕ) → block_of g q ≡ block → page < q → IsOfBatch g was batch q span → (are_from cs q ≡ true) ⊎ (min 64 most ≤ length cs)) →
-    ((span : ℕ) → block_of g r ≡ block → page < r → r < q → IsOfBatch g was batch r span → (are_from cs r ≡ true) ⊎ (min 64 most ≤ length cs)) →
-    block_of g r ≡ block → page < r → r < q + 1 → IsOfBatch g was batch r span → (are_from cs r ≡ true) ⊎ (min 64 most ≤ length cs)
-full_on g was block most batch page q r span cs this before here above next of = ⊎_elim
-    (λ (same : r ≡ q). subst (λ (k : ℕ). block_of g k ≡ block → page < k → IsOfBatch g was batch k span → (are_from cs k ≡ true) ⊎ (min 64 most ≤ length cs)) (sym same) (this span) here above of)
+full_on : (g : Geometry) (was : List ℕ) (block most : ℕ) (batch : Batch) (first q r span : ℕ) (cs : List Carried) → ((span : ℕ) → block_of g q ≡ block → IsOfBatch g was batch q span → (are_from cs q ≡ true) ⊎ (most ≤ length cs)) →
+    ((span : ℕ) → block_of g r ≡ block → first ≤ r → r < q → IsOfBatch g was batch r span → (are_from cs r ≡ true) ⊎ (most ≤ length cs)) →
+    block_of g r ≡ block → first ≤ r → r < q + 1 → IsOfBatch g was batch r span → (are_from cs r ≡ true) ⊎ (most ≤ length cs)
+full_on g was block most batch first q r span cs this before here above next of = ⊎_elim
+    (λ (same : r ≡ q). subst (λ (k : ℕ). block_of g k ≡ block → IsOfBatch g was batch k span → (are_from cs k ≡ true) ⊎ (most ≤ length cs)) (sym same) (this span) here of)
     (λ (other : r ≡ q → ⊥). before span here above (omega (arith, next, other)) of)
     (cases_eq r q)
 
 -- nothing is carried in the turn of a page that isn't of the batch, or where this is as long as it may be
-pub turn_idle : (g : Geometry) (was image : List ℕ) (block most : ℕ) (batch : Batch) (page q : ℕ) (cs : List Carried) →
-    ((span : ℕ) → block_of g q ≡ block → page < q → IsOfBatch g was batch q span → (are_from cs q ≡ true) ⊎ (min 64 most ≤ length cs)) →
-    CarriesTo g was block most batch page q cs image → CarriesTo g was block most batch page (q + 1) cs image
-turn_idle g was image block most batch page q cs this to = record {
-  so_far = to.so_far;
-  begun = to.begun;
-  behind = λ r above next. to.behind r above (omega (arith, next));
-  full = λ r span here above next of. full_on g was block most batch page q r span cs this (λ s. to.full r s) here above next of;
+pub turn_idle : (g : Geometry) (was image : List ℕ) (block most : ℕ) (batch : Batch) (first q : ℕ) (run : Run) (cs : List Carried) →
+    ((span : ℕ) → block_of g q ≡ block → IsOfBatch g was batch q span → (are_from cs q ≡ true) ⊎ (most ≤ length cs)) →
+    CarriesTo g was block most batch first q run cs image → CarriesTo g was block most batch first (q + 1) run cs image
+turn_idle g was image block most batch first q run cs this to = record {
+  copies = to.copies;
+  full = λ r span here above next of. full_on g was block most batch first q r span cs this (λ s. to.full r s) here above next of;
 }
 
 -- a page of the batch is one still
@@ -100,118 +87,137 @@ live_was g was image block most batch cs c q x at live = ⊎_elim
     absurd ((all_at (IsOut g block (sort_at g was)) (moves_of cs) come.move (outs g block (sort_at g was) (moves_of cs) c.carrying.ways) come.one).apart (ap (λ (p : ℕ). block_of g p) come.at ∙ at)))
     (c.carrying.way.live q x live)
 
-module _ (g : Geometry) (was image : List ℕ) (block most : ℕ) (batch : Batch) (page q : ℕ) (old : List Carried) (to : CarriesTo g was block most batch page q (reverse old) image) where
-  pub turn_can : block_of g q ≡ block → page < q → length old < most → (span : ℕ) → IsOfBatch g image batch q span → CanCarry g was block most batch (reverse old) q span image
-  turn_can at above room span of =
-      let l = length-reverse old in
+module _ (g : Geometry) (was image : List ℕ) (block most : ℕ) (batch : Batch) (first q : ℕ) (run : Run) (cs : List Carried) (to : CarriesTo g was block most batch first q run cs image) (ends : run.end ≤ q) where
+  abbrev had : IsRun g was block batch first run cs
+  had = to.copies.run_is
+
+  pub turn_can : block_of g q ≡ block → run.count < most → (span : ℕ) → IsOfBatch g image batch q span → CanCarry g was block most batch cs q span image
+  turn_can at room span of =
+      let many = had.many in
       record {
-        so_far = to.so_far;
-        of = record { page = of.page; live = live_was g was image block most batch (reverse old) to.so_far q of.page at of.live; kind = of.kind; id = of.id; is_span = of.is_span; at = of.at };
+        so_far = to.copies.so_far;
+        of = record { page = of.page; live = live_was g was image block most batch cs to.copies.so_far q of.page at of.live; kind = of.kind; id = of.id; is_span = of.is_span; at = of.at };
         from = at;
-        apart = to.behind q above (omega arith);
-        room = omega (arith, l, room);
+        apart = λ k d low. λ e. let w = (had.inside k d low).1 in omega (arith, w, ends, e);
+        room = omega (arith, many, room);
       }
 
-  pub turn_done : (b : List ℕ) (new : List Carried) → Carries g was block most batch (reverse new) b → HasMore q old new → CarriesTo g was block most batch page (q + 1) (reverse new) b
-  turn_done b new c more =
-      let is : reverse new ≡ more.more ∷ reverse old = ap reverse more.list ∙ one_more old more.more in
-      record {
-        so_far = c;
-        begun = rw is (rw to.begun refl);
-        behind = λ r above next. subst (λ (cs : List Carried). All (λ (d : Carried). r ≢ d.from) cs) (sym is)
-            (all_cons (λ (d : Carried). r ≢ d.from) more.more (reverse old) (λ e. let f = more.from in omega (arith, e, f, next)) (to.behind r above (omega (arith, next))));
-        full = λ r span here above next of. subst (λ (cs : List Carried). (are_from cs r ≡ true) ⊎ (min 64 most ≤ length cs)) (sym is)
-            (full_on g was block most batch page q r span (more.more ∷ reverse old)
-            (λ s at beyond one. inl (from_this (reverse old) more.more q (sym more.from)))
-            (λ s at beyond below one. ⊎_elim
-            (λ (had : are_from (reverse old) r ≡ true). inl (rw had refl))
-            (λ (long : min 64 most ≤ length (reverse old)). inr (omega (arith, long)))
-            (to.full r s at beyond below one))
-            here above next of);
-      }
+  pub turn_done : (b : List ℕ) (place span : ℕ) (new : Run) → first ≤ q → run.count < most → new.end ≡ q + 1 → new.count ≡ run.count + 1 → IsOfBatch g was batch q span → Carries g was block most batch (record { from = q; to = place; span = span } ∷ cs) b →
+      CarriesTo g was block most batch first (q + 1) new (record { from = q; to = place; span = span } ∷ cs) b
+  unfolding IsFalling
+  turn_done b place span new above room end count of c = record {
+    copies = record {
+      so_far = c;
+      run_is = record {
+        falls = (λ k d low. let w = (had.inside k d low).1 in omega (arith, w, ends), had.falls);
+        many = let many = had.many in omega (arith, many, count);
+        inside = all_cons (λ (d : Carried). (first ≤ d.from) × (d.from < new.end)) one cs (above, omega (arith, end))
+            (λ k d low. let w = had.inside k d low in (w.0, let less = w.1 in omega (arith, less, ends, end)));
+        of = all_cons (λ (d : Carried). IsOfBatch g was batch d.from d.span) one cs of had.of;
+        each = λ r s here from before is. ⊎_elim
+            (λ (same : r ≡ q). from_this cs one r same)
+            (λ (other : r ≡ q → ⊥). all_of r s here from (omega (arith, before, end, other)) is)
+            (cases_eq r q);
+      };
+    };
+    full = λ r s here from next is. full_on g was block most batch first q r s (one ∷ cs) (λ s at is. inl (from_this cs one q refl))
+        (λ s at from before is. ⊎_elim
+        (λ (yes : are_from cs r ≡ true). inl (rw yes refl))
+        (λ (long : most ≤ length cs). inr (omega (arith, long)))
+        (to.full r s at from before is)) here from next is;
+  }
+    where
+      one : Carried
+      one = record { from = q; to = place; span = span }
 
-  pub turn_ends : (new : List Carried) (span : ℕ) → block_of g q ≡ block → page < q → length old < most → IsOfBatch g image batch q span →
-      Finishes g image image (carrying was block most batch old new q span) (carrying_turn was block most batch old new page q)
-  turn_ends new span at above room of = record { needs = turn_can at above room span of; cut = λ d cut. cut; done = λ d ok done. turn_done d new done.0 done.1 }
+      all_of : (r s : ℕ) → block_of g r ≡ block → first ≤ r → r < q → IsOfBatch g was batch r s → are_from (one ∷ cs) r ≡ true
+      all_of r s here from before is = ⊎_elim
+          (λ (yes : are_from cs r ≡ true). rw yes refl)
+          (λ (long : most ≤ length cs). let many = had.many in absurd (omega (arith, long, many, room)))
+          (to.full r s here from before is)
+
+module _ (g : Geometry) (was image : List ℕ) (block most : ℕ) (batch : Batch) (first q : ℕ) (run : Run) (ends : run.end ≤ q)
+    (need : ((cs : List Carried) × CarriesTo g was block most batch first q run cs image) × (block_of g q ≡ block) × (first ≤ q)) (room : run.count < most) (span : ℕ) (of : IsOfBatch g image batch q span) where
+  turn_one : CanCarry g was block most batch need.0.0 q span image
+  turn_one = turn_can g was image block most batch first q run need.0.0 need.0.1 ends need.1 room span of
+
+  was_of : IsOfBatch g was batch q span
+  was_of = record { page = of.page; live = live_was g was image block most batch need.0.0 need.0.1.copies.so_far q of.page need.1 of.live; kind = of.kind; id = of.id; is_span = of.is_span; at = of.at }
+
+  pub turn_begins : Begins g image (carrying was block most batch q span) (carrying_turn was block most batch first q run)
+  turn_begins = record { needs = (need.0.0, turn_one); cut = λ c cut. cut }
+
+  pub turn_ends : (b : List ℕ) (to : ℕ) (new : Run) → new.end ≡ q + 1 → new.count ≡ run.count + 1 →
+      ((cs : List Carried) → CanCarry g was block most batch cs q span image → Carries g was block most batch (record { from = q; to = to; span = span } ∷ cs) b) →
+      (cs : List Carried) × CarriesTo g was block most batch first (q + 1) new cs b
+  turn_ends b to new end count done = (
+    record { from = q; to = to; span = span } ∷ need.0.0,
+    turn_done g was image block most batch first q run need.0.0 need.0.1 ends b to span new need.2 room end count was_of (done need.0.0 turn_one),
+  )
 
 -- ---- the names
 
-pub rebuilt_none : {N : Type 0} {nor : NorOf N} (v : View N nor) → IsRebuilt v v
-rebuilt_none v = record { geometry = refl; device = refl; nor_name = refl; work_name = refl; cache = refl; cache_name = refl; rows = refl; rows_name = refl; wrote = refl; counted = refl }
-
-pub rebuilt_then : {N : Type 0} {nor : NorOf N} {old mid new : View N nor} → IsRebuilt old mid → IsRebuilt mid new → IsRebuilt old new
-rebuilt_then a b = record {
-  geometry = b.geometry ∙ a.geometry;
-  device = b.device ∙ a.device;
-  nor_name = b.nor_name ∙ a.nor_name;
-  work_name = b.work_name ∙ a.work_name;
-  cache = b.cache ∙ a.cache;
-  cache_name = b.cache_name ∙ a.cache_name;
-  rows = b.rows ∙ a.rows;
-  rows_name = b.rows_name ∙ a.rows_name;
-  wrote = b.wrote ∙ a.wrote;
-  counted = b.counted ∙ a.counted;
-}
-
-pub all_taken : (g : Geometry) (plain : List ℕ) (xs : List Carried) (n : ℕ) (page : List ℕ) → length xs ≤ n → AreNamed g plain (reverse (take n xs)) page → AreNamed g plain (reverse xs) page
-all_taken g plain xs n page all named = subst (λ (ys : List Carried). AreNamed g plain (reverse ys) page) (take_all n xs all) named
-
-pub names_on : (g : Geometry) (plain : List ℕ) (xs : List Carried) (i : ℕ) (c : Carried) (mid new : List ℕ) → take (i + 1) xs ≡ take i xs ++ c ∷ [] → AreNamed g plain (reverse (take i xs)) mid → IsNamed g c.span c.to mid new →
-    AreNamed g plain (reverse (take (i + 1) xs)) new
+-- one more name
+pub names_on : (g : Geometry) (plain mid new : List ℕ) (c : Carried) (cs more : List Carried) (span to : ℕ) → more ≡ c ∷ cs → span ≡ c.span → to ≡ c.to → AreNamed g plain cs mid → IsNamed g span to mid new → AreNamed g plain more new
 unfolding AreNamed
-names_on g plain xs i c mid new is named one = subst (λ (cs : List Carried). AreNamed g plain cs new) (sym (ap reverse is ∙ one_more (take i xs) c)) (mid, named, one)
+names_on g plain mid new c cs more span to is span_is to_is named one = rw is (mid, named, rw (span_is, to_is) at one)
 
--- ---- all pages behind the first one
+-- ---- all pages of the block
 
 -- a page of the batch is one of the block's entry pages
-entries_of : (g : Geometry) (was : List ℕ) (block : ℕ) (batch : Batch) (r span : ℕ) → block_of g r ≡ block → IsOfBatch g was batch r span → (block * per_block g + lookups g ≤ r) × (r < block * per_block g + lookups g + entries g)
-entries_of g was block batch r span here of = rw here at (entry_of_block g r (live_parts g was r of.page of.live).entry_page)
+entries_of : (g : Geometry) (was : List ℕ) (block : ℕ) (batch : Batch) (r span : ℕ) → block_of g r ≡ block → IsOfBatch g was batch r span → r < (block + 1) * per_block g
+unfolding entries
+entries_of g was block batch r span here of =
+    let w = rw here at (entry_of_block g r (live_parts g was r of.page of.live).entry_page) in
+    omega (arith, w.1, w.0)
 
--- what a loop over them begins with
-pub rest_begins : (g : Geometry) (was image : List ℕ) (block most : ℕ) (batch : Batch) (page next : ℕ) (cs : List Carried) → next ≤ block * per_block g + lookups g → CarriesTo g was block most batch page 0 cs image →
-    CarriesTo g was block most batch page next cs image
-rest_begins g was image block most batch page next cs first to = record {
-  so_far = to.so_far;
-  begun = to.begun;
-  behind = λ r above from. to.behind r above (omega arith);
-  full = λ r span here above before of. let w = entries_of g was block batch r span here of in absurd (omega (arith, w.0, before, first));
+-- a loop over them
+abbrev pub carrying_part : (block most : ℕ) → Batch → (first span next : ℕ) → Step Run
+carrying_part block most batch first span next = record {
+  needs = λ g was. CanMoveFrom g was block most batch first span;
+  cut = λ g was image. TurnCut g block most was image;
+  done = λ g was now run. (cs : List Carried) × CarriesTo g was block most batch first next run cs now;
 }
 
-pub rest_begin : (g : Geometry) (was image : List ℕ) (block most : ℕ) (batch : Batch) (page next more : ℕ) (old mid new : List Carried) → CarriesTo g was block most batch page 0 (reverse old) image →
-    Begins g image (carrying_rest was block most batch old mid page next) (carrying_rest was block most batch old new page more)
-rest_begin g was image block most batch page next more old mid new need = record { needs = need; cut = λ c cut. cut }
+pub part_begin : (g : Geometry) (was : List ℕ) (block most : ℕ) (batch : Batch) (first span next more : ℕ) → CanMoveFrom g was block most batch first span →
+    Begins g was (carrying_part block most batch first span next) (carrying_part block most batch first span more)
+part_begin g was block most batch first span next more need = record { needs = need; cut = λ c cut. cut }
 
 -- the turn of the next one
-pub rest_on : (g : Geometry) (was image b : List ℕ) (block most : ℕ) (batch : Batch) (page next more : ℕ) {q : ℕ} (old mid new : List Carried) → CarriesTo g was block most batch page next (reverse mid) b → q ≡ next → more ≡ next + 1 → block_of g q ≡ block →
-    Finishes g image b (carrying_turn was block most batch mid new page q) (carrying_rest was block most batch old new page more)
-rest_on g was image b block most batch page next more old mid new s is one at = record {
-  needs = (subst (λ (n : ℕ). CarriesTo g was block most batch page n (reverse mid) b) (sym is) s, at);
-  cut = λ c cut. cut;
-  done = λ c ok done. subst (λ (n : ℕ). CarriesTo g was block most batch page n (reverse new) c) (ap (λ (n : ℕ). n + 1) is ∙ sym one) done;
-}
+pub part_on : (g : Geometry) (was b : List ℕ) (block most : ℕ) (batch : Batch) (first span q : ℕ) (run : Run) → (cs : List Carried) × CarriesTo g was block most batch first q run cs b → block_of g q ≡ block → first ≤ q →
+    Finishes g was b (carrying_turn was block most batch first q run) (carrying_part block most batch first span (q + 1))
+part_on g was b block most batch first span q run s at from = record { needs = (s, at, from); cut = λ c cut. cut; done = λ c new done. done }
 
--- where one of them gives an error
-pub rest_pass : (g : Geometry) (was image : List ℕ) (block most : ℕ) (batch : Batch) (page next : ℕ) (old new last : List Carried) → CarriesTo g was block most batch page 0 (reverse old) image →
-    Begins g image (carrying_rest was block most batch old new page next) (carrying_all was block most batch old last page)
-rest_pass g was image block most batch page next old new last need = record { needs = need; cut = λ c cut. cut }
+pub part_pass : (g : Geometry) (was : List ℕ) (block most : ℕ) (batch : Batch) (first span next : ℕ) → CanMoveFrom g was block most batch first span →
+    Begins g was (carrying_part block most batch first span next) (carrying_batch block most batch first span)
+part_pass g was block most batch first span next need = record { needs = need; cut = λ c cut. cut }
 
-pub rest_ends : (g : Geometry) (was image : List ℕ) (block most : ℕ) (batch : Batch) (page next : ℕ) (old new : List Carried) → block * per_block g + lookups g + entries g ≤ next → CarriesTo g was block most batch page 0 (reverse old) image →
-    Finishes g image image (carrying_rest was block most batch old new page next) (carrying_all was block most batch old new page)
-rest_ends g was image block most batch page next old new all need = record {
-  needs = need;
-  cut = λ c cut. cut;
-  done = λ c ok done. record {
-    so_far = done.so_far;
-    begun = done.begun;
-    full = λ r span here above of. let w = entries_of g was block batch r span here of in done.full r span here above (omega (arith, w.1, all)) of;
-  };
-}
-
--- none is left where none was popped
-pub none_left : (xs : List Carried) (o : Option Carried) → o ≡ None → (0 < length xs → IsSome o) → xs ≡ []
-none_left [] o none some = refl
-none_left (x ∷ xs) o none some = absurd (no_one o none (some (omega arith)))
+-- where all had their turns the page that begins the batch was carried
+pub part_ends : (g : Geometry) (was : List ℕ) (block most : ℕ) (batch : Batch) (first span next : ℕ) → (block + 1) * per_block g ≤ next → CanMoveFrom g was block most batch first span →
+    Finishes g was was (carrying_part block most batch first span next) (carrying_batch block most batch first span)
+part_ends g was block most batch first span next all need = record { needs = need; cut = λ c cut. cut; done = λ now run done. ends_of now run done.0 done.1 }
   where
-    no_one : (o : Option Carried) → o ≡ None → IsSome o → ⊥
-    no_one None e h = absurd (cc)
-    no_one (Some c) e h = absurd (cc)
+    inside : (r s : ℕ) → block_of g r ≡ block → IsOfBatch g was batch r s → r < next
+    inside r s here of = let w = entries_of g was block batch r s here of in omega (arith, w, all)
+
+    begun_by : (run : Run) (cs : List Carried) → IsRun g was block batch first run cs → 1 ≤ length cs → are_from cs first ≡ true
+    begun_by run [] is some = absurd (omega (arith, some))
+    begun_by run (c ∷ cs) is some =
+        let w = all_head (λ (d : Carried). (first ≤ d.from) × (d.from < run.end)) c cs is.inside in
+        let low = w.0 in
+        let high = w.1 in
+        is.each first span need.at (omega arith) (omega (arith, low, high)) need.of
+
+    ends_of : (now : List ℕ) (run : Run) (cs : List Carried) → CarriesTo g was block most batch first next run cs now → (cs : List Carried) × EndsRun g was block most batch first run cs now
+    ends_of now run cs to = (
+      cs,
+      record {
+        all = record {
+          so_far = to.copies.so_far;
+          begun = ⊎_elim (λ (yes : are_from cs first ≡ true). yes) (λ (long : most ≤ length cs). let m = need.most_is in begun_by run cs to.copies.run_is (omega (arith, long, m)))
+              (to.full first span need.at (omega arith) (inside first span need.at need.of) need.of);
+          full = λ r s here above of. to.full r s here (omega (arith, above)) (inside r s here of) of;
+        };
+        run_is = to.copies.run_is;
+      },
+    )

@@ -36,12 +36,12 @@ use Rattle.room_laws.proofs.BatchPuts.{carrying_puts, carrying_is_cut}
 use Rattle.room_laws.proofs.BatchMends.{pages_way_mend}
 use Rattle.room_laws.proofs.OnTheWay.{all_cons, all_from, all_at}
 use Rattle.page_put.specs.Placing.{placed_page}
-use Rattle.page_put.specs.LivePages.{finished_page, putting}
+use Rattle.page_put.specs.LivePages.{finished_page, IsPuttable, putting}
 use Rattle.page_put.proofs.Putting.{ready}
 use Rattle.page_renew.specs.Built.{IsLoaded}
 use Rattle.block_gc.specs.Turns.{TurnCut}
 use Rattle.block_gc.specs.declared.batch.Batch.{Batch}
-use Rattle.block_gc.specs.declared.batch.Carried.{Carried}
+use Rattle.block_gc.specs.Batches.{Carried}
 use Rattle.block_gc.specs.Batches.{move_of, moves_of, are_to, IsIndexOf, IsOfBatch, IsCarried, StandsBeside, Carries, CanCarryTo, carrying_to}
 use Rattle.block_gc.proofs.Replacing.{counts_then, flags_stay, not_put, still_live}
 
@@ -298,5 +298,13 @@ module _ (g : Geometry) (was image : List ℕ) (block most : ℕ) (batch : Batch
         counts = counts_then g was image b so_far.counts put.agree.counts;
       }
 
-  pub copy_puts : Finishes g image image (putting to Data tag work) (carrying_to was block most batch cs q to span)
-  copy_puts = record { needs = record { free = can.free; ready = copy_ready; trim = data_trims g new new_kind }; cut = λ c put. copy_left c put; done = λ c ok put. copy_done c put }
+  copy_starts : IsPuttable g image to Data tag work
+  copy_starts = record { free = can.free; ready = copy_ready; trim = data_trims g new new_kind }
+
+pub copy_puts : (g : Geometry) (was image : List ℕ) (block most : ℕ) (batch : Batch) (q to span : ℕ) (work : List ℕ) → (cs : List Carried) × CanCarryTo g was block most batch cs q to span image → IsLoaded g image q work →
+    (1 ≤ batch.id) × (batch.id ≤ 0x7FFE) → Finishes g image image (putting to Data (record { id = batch.id; span = span }) work) (carrying_to was block most batch q to span)
+copy_puts g was image block most batch q to span work need loaded range = record {
+  needs = copy_starts g was image block most batch need.0 q to span work need.1 loaded range;
+  cut = λ c put. copy_left g was image block most batch need.0 q to span work need.1 loaded range c put;
+  done = λ c ok put. λ cs can. copy_done g was image block most batch cs q to span work can loaded range c put;
+}

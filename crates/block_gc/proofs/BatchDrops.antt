@@ -1,9 +1,10 @@
 -- The old pages of a batch are killed, from what each kill leaves.
-use Rattle.std.proofs.Common.{◌≡◌, ◌≢◌, ℕ, List, [], ◌∷◌, true, false, not, ◌==◌, ◌&&◌, ◌||◌, Bool, Some, None, ap, refl, sym, ◌∙◌, arith, ⊎_elim, inl, inr}
+use Rattle.std.proofs.Common.{◌≡◌, ◌≢◌, ℕ, ◌+◌, List, [], ◌∷◌, length, subst, true, false, not, ◌==◌, ◌&&◌, ◌||◌, Bool, Some, None, ap, refl, sym, ◌∙◌, arith, ⊎_elim, inl, inr}
 use Rattle.std.specs.Prelude.{All, Contains, is_some}
+use Rattle.std.proofs.lemmas.Option.{same_Some}
 use Rattle.std.proofs.lemmas.Bool.{cases_eq, cases_Bool, and_parts, or_cases, eqb-true, eq-eqb, ne_eqb, false_from_ne_true}
 use Rattle.geometry.specs.declared.geometry.Geometry.{Geometry}
-use Rattle.flash_view.specs.Steps.{Finishes}
+use Rattle.flash_view.specs.Steps.{Begins}
 use Rattle.image_model.specs.Live.{live_at}
 use Rattle.image_model.specs.Places.{block_of}
 use Rattle.image_model.specs.Sound.{Keeps}
@@ -20,11 +21,13 @@ use Rattle.room_laws.proofs.BatchPuts.{killed_is_batch}
 use Rattle.room_laws.proofs.BatchMends.{batch_way_mends}
 use Rattle.room_laws.proofs.Carried.{begins_between, batch_goes_on}
 use Rattle.room_laws.proofs.OnTheWay.{all_at, all_cons, all_from, all_head, all_tail, way_kill}
-use Rattle.page_put.specs.LivePages.{killing}
+use Rattle.page_put.specs.LivePages.{IsKillable, killing}
 use Rattle.block_gc.specs.Turns.{TurnCut, TurnDone}
-use Rattle.block_gc.specs.declared.batch.Carried.{Carried}
-use Rattle.block_gc.specs.Batches.{move_of, moves_of, are_from, IsLeft, HaveGone, Drops, dropping}
+use Rattle.block_gc.specs.declared.batch.Batch.{Batch}
+use Rattle.block_gc.specs.declared.batch.Run.{Run}
+use Rattle.block_gc.specs.Batches.{Carried, move_of, moves_of, are_from, below, IsOfBatch, IsSpanOf, IsTurnOf, IsLeft, HaveGone, Drops, DropsTo, dropping_turn}
 use Rattle.block_gc.proofs.BatchRenews.{mapped}
+use Rattle.block_gc.proofs.BatchRuns.{below_with, below_without}
 use Rattle.block_gc.proofs.Replacing.{counts_then, flags_stay, kill_left}
 
 no_or : (x : Bool) → (x || true) ≡ false → ⊥
@@ -151,12 +154,100 @@ module _ (g : Geometry) (was image : List ℕ) (block most page : ℕ) (x : Carr
     others = λ r e. kill.loses.others r (λ same. (let bad = rw (eq-eqb r x.from same) at e in no_or (are_from left r) bad));
   }
 
-  pub drop_kills : Finishes g image image (killing x.from) (dropping was block most page x left)
-  drop_kills = record {
-    needs = record { live = ap is_some one.live; byte = one.flags };
-    cut = λ c kill. kill_left_cut c kill;
-    done = λ c ok kill. (kill_done c kill, killed_one c kill);
-  }
+  pub kill_starts : IsKillable g image x.from
+  kill_starts = record { live = ap is_some one.live; byte = one.flags }
+
+-- a live page of the block was live before
+pub alive_before : (g : Geometry) (was image : List ℕ) (block most page : ℕ) (left : List Carried) → Drops g was block most page left image → (q : ℕ) (x : List ℕ) → block_of g q ≡ block → live_at g image q ≡ Some x → live_at g was q ≡ Some x
+alive_before g was image block most page left d q x here e = ⊎_elim
+    (λ (before : live_at g was q ≡ Some x). before)
+    (λ (come : HasCome g was (d.index ∷ d.moves) q x). absurd (all_at (λ (m : Move). block_of g m.to ≢ block) (d.index ∷ d.moves) come.move outside come.one (ap (λ (p : ℕ). block_of g p) come.at ∙ here)))
+    (d.way.live q x e)
+  where
+    outside : All (λ (m : Move). block_of g m.to ≢ block) (d.index ∷ d.moves)
+    outside = all_cons (λ (m : Move). block_of g m.to ≢ block) d.index d.moves d.place.apart
+        (all_from (λ (m : Move). block_of g m.to ≢ block) d.moves (λ m has. (all_at (IsOut g block (sort_at g was)) d.moves m (outs g block (sort_at g was) d.moves d.ways) has).apart))
+
+-- ---- the turn of a page
+
+module _ (g : Geometry) (was image : List ℕ) (block most : ℕ) (batch : Batch) (first : ℕ) (run : Run) (q left : ℕ) where
+  -- nothing is killed in the turn of a page that wasn't carried
+  idle : (cs : List Carried) → DropsTo g was block most batch first (q + 1) run left cs image → are_from cs q ≡ false →
+      DropsTo g was block most batch first q run left cs image × HaveGone g (below (q + 1) cs) (below q cs) image image
+  idle cs to none =
+      let same : below (q + 1) cs ≡ below q cs = below_without q cs none in (
+        record {
+          drops = subst (λ (ds : List Carried). Drops g was block most first ds image) same to.drops;
+          run_is = to.run_is;
+          many = ap (λ (ds : List Carried). length ds) (sym same) ∙ to.many;
+        },
+        subst (λ (ds : List Carried). HaveGone g (below (q + 1) cs) ds image image) same (none_gone g (below (q + 1) cs) image),
+      )
+
+  -- nor where none is left
+  pub drop_none : left ≡ 0 → (cs : List Carried) → DropsTo g was block most batch first (q + 1) run left cs image →
+      DropsTo g was block most batch first q run left cs image × HaveGone g (below (q + 1) cs) (below q cs) image image
+  drop_none zero cs to = idle cs to (⊎_elim
+      (λ (yes : are_from cs q ≡ true).
+      let x = below_with q cs to.run_is.falls yes in
+      let more : length (below (q + 1) cs) ≡ length (below q cs) + 1 = ap (λ (ds : List Carried). length ds) x.3 ∙ omega arith in
+      let many = to.many in
+      absurd (omega (arith, more, many, zero)))
+      (λ (no : are_from cs q ≡ false). no)
+      (cases_Bool (are_from cs q)))
+
+  -- nor in that of one that isn't a page of the batch
+  pub drop_idle : IsSpanOf g image batch q None → (cs : List Carried) → DropsTo g was block most batch first (q + 1) run left cs image →
+      DropsTo g was block most batch first q run left cs image × HaveGone g (below (q + 1) cs) (below q cs) image image
+  drop_idle none cs to = idle cs to (⊎_elim
+      (λ (yes : are_from cs q ≡ true).
+      let x = below_with q cs to.run_is.falls yes in
+      let of = all_at (λ (d : Carried). IsOfBatch g was batch d.from d.span) cs x.0 to.run_is.of x.1 in
+      let drops : Drops g was block most first (x.0 ∷ below q cs) image = subst (λ (ds : List Carried). Drops g was block most first ds image) x.3 to.drops in
+      let one = all_head (IsLeft g was image drops.spare) x.0 (below q cs) drops.each in
+      let same : one.old ≡ of.page = same_Some one.old of.page (sym one.was_live ∙ of.live) in
+      absurd (none x.0.span (subst (λ (k : ℕ). IsOfBatch g image batch k x.0.span) x.2
+      (record { page = of.page; live = one.live ∙ ap Some same; kind = of.kind; id = of.id; is_span = of.is_span; at = of.at }))))
+      (λ (no : are_from cs q ≡ false). no)
+      (cases_Bool (are_from cs q)))
+
+  module _ (turn : IsTurnOf g block first run q) (span : ℕ) (of : IsOfBatch g image batch q span) where
+    -- the first one that is left is the page
+    front : (cs : List Carried) → DropsTo g was block most batch first (q + 1) run left cs image → (c : Carried) × Contains cs c × (c.from ≡ q) × (below (q + 1) cs ≡ c ∷ below q cs)
+    front cs to =
+        let before : IsOfBatch g was batch q span = record {
+          page = of.page;
+          live = alive_before g was image block most first (below (q + 1) cs) to.drops q of.page turn.at of.live;
+          kind = of.kind;
+          id = of.id;
+          is_span = of.is_span;
+          at = of.at;
+        } in
+        below_with q cs to.run_is.falls (to.run_is.each q span turn.at turn.from turn.before before)
+
+    front_drops : (cs : List Carried) (to : DropsTo g was block most batch first (q + 1) run left cs image) → Drops g was block most first ((front cs to).0 ∷ below q cs) image
+    front_drops cs to = subst (λ (ds : List Carried). Drops g was block most first ds image) (front cs to).3 to.drops
+
+    pub drop_begins : (cs : List Carried) × DropsTo g was block most batch first (q + 1) run left cs image → Begins g image (killing q) (dropping_turn was block most batch first run q left)
+    drop_begins need =
+        let x = front need.0 need.1 in
+        let d = front_drops need.0 need.1 in
+        record {
+          needs = subst (λ (k : ℕ). IsKillable g image k) x.2 (kill_starts g was image block most first x.0 (below q need.0) d);
+          cut = λ c kill. kill_left_cut g was image block most first x.0 (below q need.0) d c (subst (λ (k : ℕ). KillLeaves g k image c) (sym x.2) kill);
+        }
+
+    pub drop_ends : (b : List ℕ) (rest : ℕ) → rest + 1 ≡ left → KillDone g q image b → (cs : List Carried) → DropsTo g was block most batch first (q + 1) run left cs image →
+        DropsTo g was block most batch first q run rest cs b × HaveGone g (below (q + 1) cs) (below q cs) image b
+    drop_ends b rest one kill cs to =
+        let x = front cs to in
+        let d = front_drops cs to in
+        let k : KillDone g x.0.from image b = subst (λ (p : ℕ). KillDone g p image b) (sym x.2) kill in
+        let more : length (below (q + 1) cs) ≡ length (below q cs) + 1 = ap (λ (ds : List Carried). length ds) x.3 ∙ omega arith in
+        let many = to.many in (
+          record { drops = kill_done g was image block most first x.0 (below q cs) d b k; run_is = to.run_is; many = omega (arith, more, many, one) },
+          subst (λ (ds : List Carried). HaveGone g ds (below q cs) image b) (sym x.3) (killed_one g was image block most first x.0 (below q cs) d b k),
+        )
 
 -- ---- with none left the turn is done
 
@@ -167,23 +258,12 @@ module _ (g : Geometry) (was image : List ℕ) (block most page : ℕ) (d : Drop
   on_way : IsOnWay g (d.index ∷ d.moves) was image
   on_way = record { moves_are = d.are; way = d.way; table = d.keeps.table }
 
-  -- a live page of the block was live before
-  others_alive : (q : ℕ) (x : List ℕ) → block_of g q ≡ block → live_at g image q ≡ Some x → live_at g was q ≡ Some x
-  others_alive q x here e = ⊎_elim
-      (λ (before : live_at g was q ≡ Some x). before)
-      (λ (come : HasCome g was (d.index ∷ d.moves) q x). absurd (all_at (λ (m : Move). block_of g m.to ≢ block) (d.index ∷ d.moves) come.move outside come.one (ap (λ (p : ℕ). block_of g p) come.at ∙ here)))
-      (d.way.live q x e)
-    where
-      outside : All (λ (m : Move). block_of g m.to ≢ block) (d.index ∷ d.moves)
-      outside = all_cons (λ (m : Move). block_of g m.to ≢ block) d.index d.moves d.place.apart
-          (all_from (λ (m : Move). block_of g m.to ≢ block) d.moves (λ m has. (all_at (IsOut g block (sort_at g was)) d.moves m (outs g block (sort_at g was) d.moves d.ways) has).apart))
-
   pub drops_end : TurnDone g block page was image
   drops_end = record {
     keeps = d.keeps;
     can = record { tidy = tidy; places = (batch_goes_on g was was image block d.index d.moves d.low (begins_between g was block d.is d.can.tidy d.low) d.can.places d.ways d.some d.out d.place d.batch on_way tidy d.index_gone).1 };
     gone = ⊎_elim (λ (left : are_from [] page ≡ true). let bad : false ≡ true = left in absurd (cc)) (λ (dead : live_at g image page ≡ None). dead) d.gone;
-    others = others_alive;
+    others = alive_before g was image block most page [] d;
     between = λ first so_far. (batch_goes_on g first was image block d.index d.moves d.low so_far d.can.places d.ways d.some d.out d.place d.batch on_way tidy d.index_gone).0;
     tails = d.tails;
     counts = d.counts;

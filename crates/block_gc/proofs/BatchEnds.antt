@@ -1,7 +1,5 @@
 -- A batch that is moved, by its steps: all pages are carried, the index page is renewed, and the old pages are killed.
-use Rattle.std.proofs.Common.{◌≡◌, ◌≢◌, ℕ, ◌<◌, ◌≤◌, List, [], ◌∷◌, ◌++◌, reverse, true, false, Option, Some, None, refl, sym, ◌∙◌, ap, subst, arith, ⊎_elim, ◌+◌, ◌*◌, Result, Ok, Err, OnOk}
-use Rattle.std.specs.Prelude.{All}
-use Rattle.std.proofs.lemmas.Bool.{eq-eqb}
+use Rattle.std.proofs.Common.{◌≡◌, ◌≢◌, ℕ, ◌<◌, ◌≤◌, List, [], length, true, false, Option, Some, None, refl, sym, ◌∙◌, ap, subst, arith, ⊎_elim, ◌+◌}
 use Rattle.geometry.specs.declared.geometry.Geometry.{Geometry}
 use Rattle.table_model.specs.declared.error.Tag.{Tag}
 use Rattle.image_model.specs.Headers.{obj_id, names_index}
@@ -14,15 +12,17 @@ use Rattle.image_laws.proofs.Judge.{index_passes}
 use Rattle.image_laws.proofs.TidySteps.{neat_of, tidy-is_tidy}
 use Rattle.room_laws.proofs.BatchPuts.{carrying_starts}
 use Rattle.room_laws.proofs.Carried.{begins_between}
-use Rattle.room_laws.proofs.OnTheWay.{all_nil, all_cons}
-use Rattle.flash_view.specs.Steps.{Begins, Finishes}
+use Rattle.room_laws.proofs.OnTheWay.{all_nil}
+use Rattle.flash_view.specs.Steps.{Step, Begins, Finishes}
 use Rattle.page_renew.proofs.Homes.{Home, index_some}
-use Rattle.block_gc.specs.Turns.{CanMoveBatch, moving_batch}
+use Rattle.block_gc.specs.Turns.{TurnCut, CanMoveBatch, moving_batch}
 use Rattle.block_gc.specs.declared.batch.Batch.{Batch}
-use Rattle.block_gc.specs.declared.batch.Carried.{Carried}
-use Rattle.block_gc.specs.Batches.{IsNamedBy, IsFoundFor, are_to, HasMore, IsCarried, StandsBeside, Carries, CanCarry, are_from, CarriesAll, Drops, HaveGone, StaysIn, carrying, carrying_all, renaming, dropping, dropping_all, ending_batch, CanMoveFrom, carrying_batch, moving_from}
-use Rattle.block_gc.proofs.BatchCalls.{one_more}
-use Rattle.block_gc.proofs.BatchDrops.{drops_end, gone_then}
+use Rattle.block_gc.specs.declared.batch.Run.{Run}
+use Rattle.block_gc.specs.Batches.{Carried, IsNamedBy, IsFoundFor, are_to, IsCarried, IsOfBatch, StandsBeside, Carries, IsRun, IsFalling, below, are_from, CarriesTo, EndsRun, CanRenameTo, IsTurnOf, Drops, DropsTo, HaveGone, StaysIn}
+use Rattle.block_gc.specs.Batches.{renaming_to, renaming, dropping_turn, dropping_all, ending_batch, CanMoveFrom, carrying_batch, moving_from}
+use Rattle.block_gc.proofs.BatchCalls.{carry_stays}
+use Rattle.block_gc.proofs.BatchDrops.{drops_end, gone_then, none_gone}
+use Rattle.block_gc.proofs.BatchRuns.{below_all, below_none}
 use Rattle.block_gc.proofs.BatchCopies.{some_data}
 use Rattle.block_gc.proofs.IndexOut.{block_low}
 use Rattle.block_gc.proofs.Replacing.{tidy_keeps, home_of}
@@ -68,76 +68,125 @@ module _ (g : Geometry) (was : List ℕ) (block most : ℕ) (batch : Batch) (pag
     counts = λ c inside. refl;
   }
 
-  first_can : CanCarry g was block most batch [] page span was
-  first_can = record { so_far = none_carried; of = can.of; from = can.at; apart = all_nil (λ (c : Carried). page ≢ c.from); room = let m = can.most_is in omega (arith, m) }
-
-  pub first_begins : (old mid new : List Carried) → old ≡ [] → Begins g was (carrying was block most batch old mid page span) (carrying_batch block most batch new page span)
-  first_begins old mid new none = record { needs = subst (λ (xs : List Carried). CanCarry g was block most batch (reverse xs) page span was) (sym none) first_can; cut = λ c cut. cut }
-
-  pub first_then : (b : List ℕ) (old mid new : List Carried) → old ≡ [] → Carries g was block most batch (reverse mid) b × HasMore page old mid →
-      Finishes g was b (carrying_all was block most batch mid new page) (carrying_batch block most batch new page span)
-  first_then b old mid new none done = record {
-    needs =
-        let more = done.1 in
-        let is : reverse mid ≡ more.more ∷ [] = ap reverse more.list ∙ one_more old more.more ∙ ap (λ (xs : List Carried). more.more ∷ reverse xs) none in
-        let from : page ≡ more.more.from = sym more.from in
-        record {
-          so_far = done.0;
-          begun = rw is (rw (eq-eqb page more.more.from from) refl);
-          behind = λ r above next. subst (λ (cs : List Carried). All (λ (d : Carried). r ≢ d.from) cs) (sym is)
-              (all_cons (λ (d : Carried). r ≢ d.from) more.more [] (λ e. let f = more.from in omega (arith, e, f, above)) (all_nil (λ (d : Carried). r ≢ d.from)));
-          full = λ r span here above before of. absurd (omega (arith, before));
-        };
-    cut = λ c cut. cut;
-    done = λ c ok all. all;
+  no_run : (run : Run) → run.end ≡ page → run.count ≡ 0 → IsRun g was block batch page run []
+  unfolding IsFalling
+  no_run run end count = record {
+    falls = tt;
+    many = sym count;
+    inside = all_nil (λ (c : Carried). (page ≤ c.from) × (c.from < run.end));
+    of = all_nil (λ (c : Carried). IsOfBatch g was batch c.from c.span);
+    each = λ r s here from before is. absurd (omega (arith, from, before, end));
   }
 
--- the programs of the first page and of those behind it
-pub carried_on : {T E : Type 0} (r : Result T E) (first mid last m n : ℕ) → OnOk r (last + 4 * m ≤ mid + 4 * n) → mid ≤ first + 4 * m → OnOk r (last ≤ first + 4 * n)
-carried_on (Ok x) first mid last m n rest one = omega (arith, rest, one)
-carried_on (Err e) first mid last m n rest one = tt
+  -- no page had its turn yet
+  pub first_begins : (run : Run) → run.end ≡ page → run.count ≡ 0 → (cs : List Carried) × CarriesTo g was block most batch page page run cs was
+  first_begins run end count = (
+    [],
+    record {
+      copies = record { so_far = none_carried; run_is = no_run run end count };
+      full = λ r s here from before is. absurd (omega (arith, from, before));
+    },
+  )
+
+  pub first_stays : TurnCut g block most was was
+  first_stays = carry_stays g was was block most batch [] none_carried
 
 -- ---- and ends
 
-pub ending_begins : (g : Geometry) (was image : List ℕ) (block most : ℕ) (batch : Batch) (page : ℕ) (xs ys : List Carried) → ys ≡ xs → CarriesAll g was block most batch page (reverse xs) image →
-    Begins g image (renaming was block most batch page (reverse ys)) (ending_batch was block most batch page (reverse xs))
-ending_begins g was image block most batch page xs ys is all = record { needs = subst (λ (zs : List Carried). CarriesAll g was block most batch page (reverse zs) image) (sym is) all; cut = λ c cut. cut }
+-- the index page is renewed where a place was found
+pub rename_on : (g : Geometry) (was image : List ℕ) (block most : ℕ) (batch : Batch) (first to : ℕ) (run : Run) → ((cs : List Carried) → EndsRun g was block most batch first run cs image → CanRenameTo g was block most batch first to cs image) →
+    (cs : List Carried) × EndsRun g was block most batch first run cs image → Finishes g image image (renaming_to was block most batch first to run) (renaming was block most batch first run)
+rename_on g was image block most batch first to run place need = record {
+  needs = (need.0, place need.0 need.1, need.1.run_is);
+  cut = λ d cut. cut;
+  done = λ d ok done. λ cs ends. done cs (place cs ends) ends.run_is;
+}
 
-pub ending_then : (g : Geometry) (was image b : List ℕ) (block most : ℕ) (batch : Batch) (page : ℕ) (xs ys : List Carried) → ys ≡ xs → Drops g was block most page (reverse ys) b × StaysIn g block image b →
-    Finishes g image b (dropping_all was block most page (reverse xs) []) (ending_batch was block most batch page (reverse xs))
-ending_then g was image b block most batch page xs ys is drops = record {
-  needs = subst (λ (zs : List Carried). Drops g was block most page (reverse zs) b) is drops.0;
+pub ending_begins : (g : Geometry) (was image : List ℕ) (block most : ℕ) (batch : Batch) (first : ℕ) (run : Run) → (cs : List Carried) × EndsRun g was block most batch first run cs image →
+    Begins g image (renaming was block most batch first run) (ending_batch was block most batch first run)
+ending_begins g was image block most batch first run need = record { needs = need; cut = λ c cut. cut }
+
+pub ending_then : (g : Geometry) (was image b : List ℕ) (block most : ℕ) (batch : Batch) (first : ℕ) (run : Run) → (cs : List Carried) × EndsRun g was block most batch first run cs image →
+    ((cs : List Carried) → EndsRun g was block most batch first run cs image → Drops g was block most first cs b × StaysIn g block image b) →
+    Finishes g image b (dropping_all was block most batch first run) (ending_batch was block most batch first run)
+ending_then g was image b block most batch first run need drops = record {
+  needs = (need.0, (drops need.0 need.1).0, need.1.run_is);
   cut = λ c cut. cut;
   done = λ c ok done. (
-    drops_end g was c block most page done.0,
-    record {
-      gone = λ r here e. ⊎_elim (λ (left : are_from [] r ≡ true). let bad : false ≡ true = left in absurd (cc)) (λ (dead : live_at g c r ≡ None). dead) (done.1.gone r e);
-      others = λ r here e. done.1.others r e ∙ drops.1 r here;
-    },
+    drops_end g was c block most first (done need.0 (drops need.0 need.1).0 need.1.run_is).0,
+    λ cs ends.
+        let renamed = drops cs ends in
+        let dropped = done cs renamed.0 ends.run_is in
+        record {
+          gone = λ r here e. ⊎_elim (λ (left : are_from [] r ≡ true). let bad : false ≡ true = left in absurd (cc)) (λ (dead : live_at g c r ≡ None). dead) (dropped.1.gone r e);
+          others = λ r here e. dropped.1.others r e ∙ renamed.1 r here;
+        },
   );
 }
 
-pub from_begins : (g : Geometry) (was : List ℕ) (block most : ℕ) (batch : Batch) (page span : ℕ) (new : List Carried) → CanMoveFrom g was block most batch page span →
-    Begins g was (carrying_batch block most batch new page span) (moving_from block most batch page span)
-from_begins g was block most batch page span new can = record { needs = can; cut = λ c cut. cut }
+pub from_begins : (g : Geometry) (was : List ℕ) (block most : ℕ) (batch : Batch) (page span : ℕ) → CanMoveFrom g was block most batch page span →
+    Begins g was (carrying_batch block most batch page span) (moving_from block most batch page span)
+from_begins g was block most batch page span can = record { needs = can; cut = λ c cut. cut }
 
-pub from_then : (g : Geometry) (was b : List ℕ) (block most : ℕ) (batch : Batch) (page span : ℕ) (new : List Carried) → CarriesAll g was block most batch page (reverse new) b →
-    Finishes g was b (ending_batch was block most batch page (reverse new)) (moving_from block most batch page span)
-from_then g was b block most batch page span new all = record { needs = all; cut = λ c cut. cut; done = λ c ok done. done.0 }
+pub from_then : (g : Geometry) (was b : List ℕ) (block most : ℕ) (batch : Batch) (page span : ℕ) (run : Run) → (cs : List Carried) × EndsRun g was block most batch page run cs b →
+    Finishes g was b (ending_batch was block most batch page run) (moving_from block most batch page span)
+from_then g was b block most batch page span run all = record { needs = all; cut = λ c cut. cut; done = λ c ok done. done.0 }
 
--- the old pages go one by one
-pub drop_begin : (g : Geometry) (was image : List ℕ) (block most page : ℕ) (from mid left : List Carried) → Drops g was block most page from image → Begins g image (dropping_all was block most page from mid) (dropping_all was block most page from left)
-drop_begin g was image block most page from mid left drops = record { needs = drops; cut = λ c cut. cut }
+-- ---- the old pages go one by one
 
-pub drop_on : (g : Geometry) (was image b : List ℕ) (block most page : ℕ) (c : Carried) (from mid left : List Carried) → mid ≡ left ++ c ∷ [] → Drops g was block most page (reverse mid) b × HaveGone g from (reverse mid) image b →
-    Finishes g image b (dropping was block most page c (reverse left)) (dropping_all was block most page from (reverse left))
-drop_on g was image b block most page c from mid left is drops =
-    let more : reverse mid ≡ c ∷ reverse left = ap reverse is ∙ one_more left c in
-    record {
-      needs = subst (λ (cs : List Carried). Drops g was block most page cs b) more drops.0;
-      cut = λ d cut. cut;
-      done = λ d ok done. (done.0, gone_then g from (c ∷ reverse left) (reverse left) image b d (subst (λ (cs : List Carried). HaveGone g from cs image b) more drops.1) done.1);
-    }
+-- those from page `next` on are gone: how many are left
+abbrev pub dropping_down : (was : List ℕ) (block most : ℕ) → Batch → (first : ℕ) → Run → (next : ℕ) → Step ℕ
+dropping_down was block most batch first run next = record {
+  needs = λ g image. (cs : List Carried) × Drops g was block most first cs image × IsRun g was block batch first run cs;
+  cut = λ g image cut. TurnCut g block most was cut;
+  done = λ g image now left. (cs : List Carried) → Drops g was block most first cs image → IsRun g was block batch first run cs →
+      DropsTo g was block most batch first next run left cs now × HaveGone g cs (below next cs) image now;
+}
+
+module _ (g : Geometry) (was image : List ℕ) (block most : ℕ) (batch : Batch) (first : ℕ) (run : Run) where
+  abbrev Needs : Type 0
+  Needs = (cs : List Carried) × Drops g was block most first cs image × IsRun g was block batch first run cs
+
+  abbrev DownTo : (next left : ℕ) (b : List ℕ) → Type 0
+  DownTo next left b = (cs : List Carried) → Drops g was block most first cs image → IsRun g was block batch first run cs →
+      DropsTo g was block most batch first next run left cs b × HaveGone g cs (below next cs) image b
+
+  -- at first all are left
+  pub down_none : (next left : ℕ) → next ≡ run.end → left ≡ run.count → DownTo next left image
+  down_none next left end count cs drops is =
+      let same : below next cs ≡ cs = below_all next cs (λ k d low. let w = (is.inside k d low).1 in omega (arith, w, end)) in
+      let many = is.many in (
+        record { drops = subst (λ (ds : List Carried). Drops g was block most first ds image) (sym same) drops; run_is = is; many = ap (λ (ds : List Carried). length ds) same ∙ (many ∙ sym count) },
+        subst (λ (ds : List Carried). HaveGone g cs ds image image) (sym same) (none_gone g cs image),
+      )
+
+  pub down_begins : (next more : ℕ) → Needs → Begins g image (dropping_down was block most batch first run next) (dropping_down was block most batch first run more)
+  down_begins next more need = record { needs = need; cut = λ d cut. cut }
+
+  pub down_begin : (next : ℕ) → Needs → Begins g image (dropping_down was block most batch first run next) (dropping_all was block most batch first run)
+  down_begin next need = record { needs = need; cut = λ d cut. cut }
+
+  -- the turn of the next one
+  pub down_on : (b : List ℕ) (next more left q : ℕ) → q + 1 ≡ next → more ≡ q → Needs → DownTo next left b → IsTurnOf g block first run q →
+      Finishes g image b (dropping_turn was block most batch first run q left) (dropping_down was block most batch first run more)
+  down_on b next more left q one is need so_far turn = record {
+    needs = ((need.0, (left_at need.0 need.1 need.2).0), turn);
+    cut = λ d cut. cut;
+    done = λ d rest killed. λ cs drops has.
+        let s = left_at cs drops has in
+        let t = killed cs s.0 in
+        subst (λ (n : ℕ). DropsTo g was block most batch first n run rest cs d × HaveGone g cs (below n cs) image d) (sym is) (t.0, gone_then g cs (below (q + 1) cs) (below q cs) image b d s.1 t.1);
+  }
+    where
+      left_at : (cs : List Carried) → Drops g was block most first cs image → IsRun g was block batch first run cs → DropsTo g was block most batch first (q + 1) run left cs b × HaveGone g cs (below (q + 1) cs) image b
+      left_at cs drops has = subst (λ (n : ℕ). DropsTo g was block most batch first n run left cs b × HaveGone g cs (below n cs) image b) (sym one) (so_far cs drops has)
+
+  -- with the first one all are gone
+  pub down_all : (next left : ℕ) (b : List ℕ) → next ≤ first → DownTo next left b → (cs : List Carried) → Drops g was block most first cs image → IsRun g was block batch first run cs → Drops g was block most first [] b × HaveGone g cs [] image b
+  down_all next left b low so_far cs drops is =
+      let none : below next cs ≡ [] = below_none next cs (λ k d small. let w = (is.inside k d small).0 in omega (arith, w, low)) in
+      let s = so_far cs drops is in
+      (subst (λ (ds : List Carried). Drops g was block most first ds b) none s.0.drops, subst (λ (ds : List Carried). HaveGone g cs ds image b) none s.1)
 
 -- ---- the batch that a page begins is found
 

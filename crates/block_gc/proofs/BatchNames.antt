@@ -15,7 +15,7 @@ use Rattle.image_laws.specs.Reindex.{Reindexes, slot_word, now_data}
 use Rattle.room_laws.proofs.OnTheWay.{all_head, all_tail, all_at, all_cons, all_nil, in_head, in_tail}
 use Rattle.page_renew.specs.Built.{IsNamed}
 use Rattle.page_renew.proofs.SlotNames.{slot_word_at, slot_behind, other_word, named_leads, named_spans}
-use Rattle.block_gc.specs.declared.batch.Carried.{Carried}
+use Rattle.block_gc.specs.Batches.{Carried}
 use Rattle.block_gc.specs.Batches.{are_from, are_to, AreNamed}
 use Rattle.block_gc.proofs.Replacing.{set_outside, set_inside}
 
@@ -142,6 +142,13 @@ module _ (g : Geometry) (plain : List ℕ) where
   unfolding AreNamed
   names_head [] new named k below = ap (λ (l : List ℕ). slice_index l k) named
   names_head (c ∷ cs) new named k below = let from = slot_behind g c.span in named.2.others.before k (omega (arith, from, below)) ∙ names_head cs named.0 named.1 k below
+
+  -- and so do the bytes behind the entries that are named
+  pub names_behind : (cs : List Carried) (new : List ℕ) → AreNamed g plain cs new → (k : ℕ) → All (λ (c : Carried). slot_at g c.span + 2 ≤ k) cs → slice_index new k ≡ slice_index plain k
+  unfolding AreNamed
+  names_behind [] new named k past = ap (λ (l : List ℕ). slice_index l k) named
+  names_behind (c ∷ cs) new named k past =
+      named.2.others.after k (all_head (λ (d : Carried). slot_at g d.span + 2 ≤ k) c cs past) ∙ names_behind cs named.0 named.1 k (all_tail (λ (d : Carried). slot_at g d.span + 2 ≤ k) c cs past)
 
   pub names_small : (cs : List Carried) (new : List ℕ) → AreNamed g plain cs new → (k : ℕ) → slice_index plain k < 256 → slice_index new k < 256
   unfolding AreNamed

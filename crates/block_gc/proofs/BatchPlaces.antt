@@ -17,7 +17,7 @@ use Rattle.room_laws.proofs.OnTheWay.{all_from, all_at}
 use Rattle.room_laws.proofs.Resolved.{live_sort}
 use Rattle.room_laws.proofs.Sorted.{sorts_are_counted}
 use Rattle.block_gc.specs.declared.batch.Batch.{Batch}
-use Rattle.block_gc.specs.declared.batch.Carried.{Carried}
+use Rattle.block_gc.specs.Batches.{Carried}
 use Rattle.block_gc.specs.Batches.{move_of, moves_of, are_from, Carries, CanCarry, CanCarryTo, CarriesAll, CanRenameTo}
 use Rattle.block_gc.proofs.PlacesBy.{found_place, place_is_found}
 

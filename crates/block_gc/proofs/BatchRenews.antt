@@ -1,8 +1,8 @@
 -- The index page of a batch is renewed to name the copies, from what a put and a kill leave.
-use Rattle.std.proofs.Common.{◌≡◌, ◌≢◌, ℕ, ◌%◌, ◌<◌, ◌≤◌, List, [], ◌∷◌, length, take, set, Bool, true, false, ◌&&◌, Option, Some, Result, Ok, slice_index, slice_range, ap, refl, sym, ◌∙◌, arith, ⊎_elim, inl, inr, subst}
+use Rattle.std.proofs.Common.{◌≡◌, ◌≢◌, ℕ, ◌+◌, ◌%◌, ◌<◌, ◌≤◌, List, [], ◌∷◌, length, take, set, Bool, true, false, ◌&&◌, Option, Some, Result, Ok, slice_index, slice_range, ap, refl, sym, ◌∙◌, arith, ⊎_elim, inl, inr, subst}
 use Rattle.std.specs.Prelude.{All, Contains, is_some, option_and_then, unwrap_or}
 use Rattle.std.specs.Option.{option_map}
-use Rattle.std.proofs.lemmas.Bool.{cases_Bool, and_parts}
+use Rattle.std.proofs.lemmas.Bool.{cases_Bool, cases_lt, lt-ltb, le-ltb, and_parts}
 use Rattle.std.proofs.lemmas.List.{get_or-take, length-map}
 use Rattle.std.proofs.lemmas.List.Elements.{All-map}
 use Rattle.std.proofs.lemmas.Option.{same_Some}
@@ -22,7 +22,7 @@ use Rattle.image_model.specs.Within.{sizes, page_length, page_number}
 use Rattle.image_model.specs.Headers.{obj_id, span_of, names_index, size_of}
 use Rattle.image_model.specs.Live.{Live, live_at, own}
 use Rattle.image_model.specs.Places.{block_of, IsImage}
-use Rattle.image_model.specs.Files.{is_index, index_page, entry_number, data_of, data_page, span_bytes, index_span}
+use Rattle.image_model.specs.Files.{is_index, index_page, further, entry_number, data_of, data_page, span_bytes, index_span, slot_at}
 use Rattle.image_model.specs.Tables.{has_of}
 use Rattle.image_model.specs.Tidy.{serves}
 use Rattle.image_model.specs.Kinds.{is_index_page}
@@ -43,6 +43,7 @@ use Rattle.renew_laws.specs.Replace.{ReplaceCut, Replaced}
 use Rattle.renew_laws.proofs.RecopyCuts.{recopy-cuts, mine4, mine5}
 use Rattle.renew_laws.proofs.RecopyLeaves.{recopy-spares}
 use Rattle.renew_laws.proofs.ReindexSteps.{entry3_here}
+use Rattle.renew_laws.specs.Tails.{FreesEntries}
 use Rattle.renew_laws.proofs.TailSteps.{tail-copied}
 use Rattle.room_laws.specs.Counts.{for_index}
 use Rattle.room_laws.specs.Sorts.{sort_at, IsPlaceBy}
@@ -57,17 +58,18 @@ use Rattle.room_laws.proofs.OnTheWay.{all_at, all_from, all_nil, all_cons, in_he
 use Rattle.page_put.specs.Placing.{placed_page}
 use Rattle.page_put.specs.LivePages.{finished_page}
 use Rattle.page_renew.specs.Copies.{count_of}
-use Rattle.page_renew.specs.Renewals.{replacing}
+use Rattle.page_renew.specs.Renewals.{CanReplace, replacing}
+use Rattle.page_renew.proofs.SlotNames.{slots_rise}
 use Rattle.page_renew.proofs.FreeEntries.{free_behind}
 use Rattle.page_renew.proofs.Homes.{serves_data, own_of, of_kind, Home}
 use Rattle.page_renew.proofs.IndexCopies.{placed_index}
 use Rattle.page_renew.proofs.Renewed.{slot_same, renewed, now_same}
 use Rattle.block_gc.specs.Turns.{TurnCut}
 use Rattle.block_gc.specs.declared.batch.Batch.{Batch}
-use Rattle.block_gc.specs.declared.batch.Carried.{Carried}
-use Rattle.block_gc.specs.Batches.{move_of, moves_of, are_from, are_to, IsCarried, Carries, AreNamed, IsNamedCopy, CanRenameTo, IsLeft, Drops, renaming_to, StaysIn}
+use Rattle.block_gc.specs.declared.batch.Run.{Run}
+use Rattle.block_gc.specs.Batches.{Carried, IsRun, move_of, moves_of, are_from, are_to, IsCarried, Carries, AreNamed, IsNamedCopy, CanRenameTo, IsLeft, Drops, renaming_to, StaysIn}
 use Rattle.block_gc.proofs.BatchCopies.{data_there, named_moves}
-use Rattle.block_gc.proofs.BatchNames.{AreDistinct, IsThere, Leads, names_lead, names_each, names_left, names_size, names_head, names_small, names_finished, to_one, from_one, from_there}
+use Rattle.block_gc.proofs.BatchNames.{AreDistinct, IsThere, Leads, names_lead, names_each, names_left, names_size, names_head, names_behind, names_small, names_finished, to_one, from_one, from_there}
 use Rattle.block_gc.proofs.BatchPlaces.{some_carried}
 use Rattle.block_gc.proofs.Replacing.{keeps_same, counts_then, replaced_counts, home_of, flags_stay, not_put, still_live, replace_left, index_alone, set_twice, index_ready}
 
@@ -323,18 +325,22 @@ module _ (g : Geometry) (was image : List ℕ) (block most : ℕ) (batch : Batch
               batch_way_mends g first was d block ix moves may between c.carrying.ways some (omega (arith, few, most_is)) out place on.batch_is (record { moves_are = on.are; way = on.way; table = keeps.table });
         }
 
-    -- the entry behind the last one is free
-    next : head_slots g ≤ data_pages g (size_of head) → index_span g (data_pages g (size_of head)) ≡ span_of old → slot_word g new (data_pages g (size_of head)) ≡ 0xFFFF
-    next high at = ⊎_elim
-        (λ (same : slot_word g new (data_pages g (size_of head)) ≡ slot_word g plain (data_pages g (size_of head))).
-        same ∙ subst (λ (n : ℕ). slot_word g plain n ≡ 0xFFFF) count
-        (free_behind g old (take g.page copy.plain) plain (count_of g image (obj_id old % 0x8000)) copy.built.copied refl (omega (arith, high, count)) (ap (index_span g) count ∙ at)))
-        (λ (one : (x : Carried) × Contains cs x × (x.span ≡ data_pages g (size_of head))).
-        let y = all_at (λ (z : Carried). IsThere g pages4 head (span_of old) z) cs one.0 there one.1 in
-        let low = y.low in
-        let is = one.2 in
-        absurd (omega (arith, low, is)))
-        (names_left g pages4 id w h old plain head plain_leads.0 f0 plain_leads.1 plain_spans cs new named there (data_pages g (size_of head)) at)
+    -- the entries behind the last one are free
+    next : FreesEntries g old new head
+    next t k high past at low below =
+        names_behind g plain cs new named k (all_from (λ (x : Carried). slot_at g x.span + 2 ≤ k) cs (λ x one.
+        let y = all_at (λ (z : Carried). IsThere g pages4 head (span_of old) z) cs x there one in
+        let under = y.low in
+        let near : further g t ≡ span_of old = rw (le-ltb t (head_slots g) high) at at in
+        let same = y.at in
+        ⊎_elim
+        (λ (close : x.span < head_slots g). let zero : index_span g x.span ≡ 0 = rw (lt-ltb x.span (head_slots g) close) refl in absurd (omega (arith, zero, same, near)))
+        (λ (far : head_slots g ≤ x.span).
+        let spans : further g x.span ≡ further g t = (rw (le-ltb x.span (head_slots g) far) at same) ∙ sym near in
+        let step = slots_rise g x.span t far (omega (arith, under, past)) spans in
+        omega (arith, step, low, under, past))
+        (cases_lt x.span (head_slots g))))
+        ∙ free_behind g old (take g.page copy.plain) plain (count_of g image (obj_id old % 0x8000)) copy.built.copied refl t k high (omega (arith, past, count)) at low below
 
     -- ---- then the old pages are spare
 
@@ -453,12 +459,21 @@ module _ (g : Geometry) (was image : List ℕ) (block most : ℕ) (batch : Batch
         (omega (arith, fewer, low), t.at)))
         (copied_trims g old y (count_of g image (obj_id old % 0x8000)) copy.built.copied of_head zero)).0
 
-    pub rename_puts : Finishes g image image (replacing to w tag work) (renaming_to was block most batch page to cs)
-    rename_puts = record {
-      needs = record {
-        put = record { free = can.free; ready = index_ready g tag work (take g.page work) placed_is page_len small range; trim = renamed_trim };
-        kill = record { live = ap is_some copy.built.live; byte = copy.built.flags };
-      };
-      cut = λ d cut. cut_by d cut;
-      done = λ d ok done. (renamed_done d done, stays_in d done);
+    rename_starts : CanReplace g image to w tag work
+    rename_starts = record {
+      put = record { free = can.free; ready = index_ready g tag work (take g.page work) placed_is page_len small range; trim = renamed_trim };
+      kill = record { live = ap is_some copy.built.live; byte = copy.built.flags };
     }
+
+module _ (g : Geometry) (was image : List ℕ) (block most : ℕ) (batch : Batch) (first to : ℕ) (run : Run) (work : List ℕ) (range : (1 ≤ batch.id) × (batch.id ≤ 0x7FFE))
+    (copy : (cs : List Carried) → CanRenameTo g was block most batch first to cs image → IsRun g was block batch first run cs → IsNamedCopy g image batch.index cs work)
+    (need : (cs : List Carried) × CanRenameTo g was block most batch first to cs image × IsRun g was block batch first run cs) where
+  pub rename_puts : Finishes g image image (replacing to batch.index (record { id = batch.id; span = batch.span }) work) (renaming_to was block most batch first to run)
+  rename_puts = record {
+    needs = rename_starts g was image block most batch first to need.0 need.1 work (copy need.0 need.1 need.2) range;
+    cut = λ d cut. cut_by g was image block most batch first to need.0 need.1 work (copy need.0 need.1 need.2) range d cut;
+    done = λ d ok done. λ cs can is_run. (
+      renamed_done g was image block most batch first to cs can work (copy cs can is_run) range d done,
+      stays_in g was image block most batch first to cs can work (copy cs can is_run) range d done,
+    );
+  }

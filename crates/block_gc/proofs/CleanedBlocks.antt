@@ -1,5 +1,5 @@
 -- Cleaning a block, over plain images.
-use Rattle.std.proofs.Common.{◌≡◌, ℕ, ◌+◌, ◌*◌, ◌<◌, ◌≤◌, ◌⊎◌, ⊎_elim, List, true, false, Some, None, refl, sym, ◌∙◌, ap, subst, arith}
+use Rattle.std.proofs.Common.{◌≡◌, ℕ, ◌+◌, ◌*◌, ◌<◌, ◌≤◌, ◌⊎◌, ⊎_elim, inl, inr, List, true, false, Some, None, refl, sym, ◌∙◌, ap, subst, arith}
 use Rattle.std.specs.Prelude.{Option, max, length}
 use Rattle.std.proofs.Math.Path.{fun_ext}
 use Rattle.std.proofs.lemmas.Bool.{cases_lt, false_from_ne_true}
@@ -7,17 +7,21 @@ use Rattle.geometry.specs.declared.geometry.Geometry.{Geometry}
 use Rattle.geometry.specs.Numbers.{per_block, lookups, entries, page_count}
 use Rattle.image_model.specs.Within.{page_number, entry_in}
 use Rattle.image_model.specs.Live.{Live, live_at, own}
-use Rattle.image_model.specs.Places.{IsImage, block_of, next_count, has_magic}
+use Rattle.image_model.specs.Places.{IsImage, block_of, erase_count, next_count, has_magic}
 use Rattle.image_model.specs.Tidy.{IsTidy, is_free_block}
 use Rattle.image_model.specs.Collect.{deleted_in, free_in, is_worth}
 use Rattle.image_laws.proofs.Frames.{live_parts, table_of-same}
 use Rattle.image_laws.proofs.Matching.{filter-none_in}
 use Rattle.image_laws.proofs.Sounding.{keeps-on}
 use Rattle.renew_laws.proofs.TailSteps.{tail-stays}
+use Rattle.trim_laws.specs.Wear.{SameWear}
+use Rattle.trim_laws.proofs.NextCounts.{next_same}
 use Rattle.trim_laws.proofs.Trims.{block_trims}
-use Rattle.flash_view.specs.Steps.{Begins, Finishes, acting}
+use Rattle.trim_laws.proofs.Wears.{fresh_wears, fresh_worn}
+use Rattle.flash_view.specs.Steps.{Begins, Finishes, acting, any_image}
 use Rattle.flash_view.specs.declared.counts.BlockCounts.{BlockCounts}
 use Rattle.flash_view.specs.Counts.{AreCounts}
+use Rattle.free_search.proofs.Beside.{free_magic}
 use Rattle.free_search.proofs.FreePages.{free_counted}
 use Rattle.room_laws.specs.Sorts.{Sort, Index, Data, Deleted, Free, same_sort, sort_at, counts_by}
 use Rattle.room_laws.specs.Recovery.{IsBetween, IsEmptied, MayCut, Recovers, batch_most}
@@ -97,11 +101,11 @@ module _ (g : Geometry) (a b : List ℕ) (block count : ℕ) (is_a : IsImage g a
   image_of : (x : List ℕ) → length x ≡ length b → IsImage g x
   image_of x size = record { len = let whole = is_b.len in omega (arith, size, whole) }
 
-  fresh_mends : (x : List ℕ) → Freshens g block b x → MayCut g a block → Recovers g x
+  fresh_mends : (x : List ℕ) → Freshens g block count b x → MayCut g a block → Recovers g x
   fresh_mends x cut may = ⊎_elim
       (λ (same : x ≡ b). subst (λ (l : List ℕ). Recovers g l) (sym same) (still_mends g a b b block may between (still g b is_b)))
       (λ (state : (has_magic g x block ≡ false) ⊎ (is_free_block g x block ≡ true)).
-      fresh_way_mends g a b x block may between emptied (image_of x cut.outside.size) (fresh_keeps g block b empty.can.tidy dead is_b x cut).table cut.outside state)
+      fresh_way_mends g a b x block may between emptied (image_of x cut.outside.size) (fresh_keeps g block b empty.can.tidy dead is_b count x cut).table cut.outside state)
       cut.state
 
   cleaned : (c : List ℕ) → IsFresh g block count b c → CleanedBlock g block a c
@@ -113,9 +117,22 @@ module _ (g : Geometry) (a b : List ℕ) (block count : ℕ) (is_a : IsImage g a
     tails = λ id ready. tail-stays g b c id (ap (λ (live : Live). own live id) (fun_ext (fresh_live g block b empty.can.tidy dead count c fresh))) (empty.tails id ready);
   }
 
-  pub freshens : Finishes g a b (acting (λ h. Freshens h block) (λ h. IsFresh h block count)) (cleaning_block block)
+  -- the count is the next one still
+  still_next : count ≡ next_count g b
+  still_next =
+      let same : SameWear g a b = record { magic = λ d inside. empty.can.tidy.magic d inside ∙ sym (can.tidy.magic d inside); count = λ d inside has. empty.counts d inside } in
+      next ∙ sym (next_same g a b same)
+
+  pub freshens : Finishes g a b (acting any_image (λ h. Freshens h block count) (λ h. IsFresh h block count)) (cleaning_block block)
   freshens = record {
-    needs = λ c cut. block_trims g b c block cut.outside cut.dead;
-    cut = λ c cut. record { keeps = keeps-on g a b c empty.keeps (fresh_keeps g block b empty.can.tidy dead is_b c cut); mends = fresh_mends c cut };
+    needs = (
+      tt,
+      (λ c cut. record {
+        trims = block_trims g b c block cut.outside cut.dead;
+        wears = fresh_wears g b c block low cut.outside (λ has. ⊎_elim (λ (same : c ≡ b). inl same) (λ (e : erase_count g c block ≡ count). inr (e ∙ still_next)) (cut.counts has));
+      }),
+      λ c fresh. fresh_worn g b c block low fresh.outside (free_magic g c block fresh.free) (fresh.count ∙ still_next),
+    );
+    cut = λ c cut. record { keeps = keeps-on g a b c empty.keeps (fresh_keeps g block b empty.can.tidy dead is_b count c cut); mends = fresh_mends c cut };
     done = λ c ok fresh. cleaned c fresh;
   }

@@ -2,6 +2,7 @@
 use Rattle.std.proofs.Common.{◌≡◌, ℕ, ◌+◌, ◌-◌, ◌<◌, ◌^◌, List, [], ◌∷◌, ◌++◌, length, map, Bool, true, false, Some, None, Result, refl, sym, ◌∙◌, subst, arith, length-append}
 use Rattle.std.specs.List.{Contains}
 use Rattle.std.proofs.lemmas.Bool.{le-leb}
+use Rattle.std.proofs.lemmas.Option.{same_Some}
 use Rattle.geometry.specs.declared.geometry.Geometry.{Geometry}
 use Rattle.nor_core.specs.declared.state.NorState.{Ghosts as NorOf}
 use Rattle.nor_core.specs.Device.{OnlyReads}
@@ -20,6 +21,7 @@ use Rattle.image_laws.proofs.MixedBlocks.{mixed-none}
 use Rattle.image_laws.proofs.Sounding.{keeps-on}
 use Rattle.image_laws.proofs.SpareKill.{tidy-has_magics}
 use Rattle.image_laws.proofs.TidySteps.{tidy-is_tidy}
+use Rattle.trim_laws.specs.Wear.{IsRenewed}
 use Rattle.flash_view.specs.Steps.{Step, Errors, Stepped, Begins, Finishes}
 use Rattle.room_laws.specs.Stopping.{CanClean, HasRoomFor}
 use Rattle.room_laws.specs.Mends.{CanMend}
@@ -35,7 +37,7 @@ use Rattle.block_gc.specs.declared.room.Goal.TheVariants.{Pages, Packed}
 use Rattle.block_gc.specs.Cleanings.{CanCleanBlock, CleanedBlock, cleaning_block}
 use Rattle.block_gc.proofs.CleanedBlocks.{worth_used}
 use Rattle.block_gc.proofs.Replacing.{tidy_keeps}
-use Rattle.block_gc.specs.RoomMade.{CollectCut, SweptAlong, SweptTo, NoneIs, Cleanings, CleaningsTo, MadeRoom, IsTight, IsCompact, IsStuck, IsReady, IsMet, StopsAt, Collected, PackedOrStuck, cleaning_chosen, collecting, packing}
+use Rattle.block_gc.specs.RoomMade.{CollectCut, SweepsBlock, SweptAlong, SweptTo, NoneIs, Cleanings, CleaningsTo, MadeRoom, IsTight, IsCompact, IsStuck, IsReady, IsMet, StopsAt, Collected, PackedOrStuck, cleaning_chosen, collecting, packing}
 
 -- ---- swept steps
 
@@ -43,7 +45,7 @@ pub swept_none : (g : Geometry) (a : List ℕ) → SweptTo g a a
 unfolding SweptAlong
 swept_none g a = record { through = []; steps = refl }
 
-swept_once : (g : Geometry) (a b : List ℕ) → Swept g a b → SweptTo g a b
+swept_once : (g : Geometry) (a b : List ℕ) → SweepsBlock g a b → SweptTo g a b
 unfolding SweptAlong
 swept_once g a b swept = record { through = a ∷ []; steps = (refl, swept) }
 
@@ -84,6 +86,24 @@ none_of_none is g a = tt {0}
 pub chosen_can : (g : Geometry) (a : List ℕ) (block : ℕ) → IsTidy g a → chosen_block g a ≡ Some block → CanCleanBlock g a block
 chosen_can g a block t chosen = let is = chosen_is_candidate g a block chosen in record { tidy = t; used = worth_used g a block t is.within is.worth; fits = is.fits }
 
+-- the block was made fresh
+renewed_block : (g : Geometry) (a b : List ℕ) (block : ℕ) → CleanedBlock g block a b → IsRenewed g block a b
+renewed_block g a b block done =
+    let cleaned = done.cleaned in
+    record {
+      within = cleaned.within;
+      magic = cleaned.after.magic block cleaned.within;
+      count = done.count;
+      others = λ d low out. cleaned.after.magic d low ∙ sym (cleaned.before.magic d low);
+      counts = λ d low out has. done.others d low out;
+    }
+
+sweeps_block : (g : Geometry) (a b : List ℕ) (block : ℕ) → chosen_block g a ≡ Some block → CleanedBlock g block a b → SweepsBlock g a b
+sweeps_block g a b block chosen done =
+    let swept : Swept g a b = has_cleaned_is_swept g a b block chosen done.cleaned in
+    let same : block ≡ swept.block = same_Some block swept.block (sym chosen ∙ swept.chosen) in
+    record { swept = swept; fresh = subst (λ (n : ℕ). IsRenewed g n a b) same (renewed_block g a b block done) }
+
 pub one_cleaned : (g : Geometry) (a b : List ℕ) (block : ℕ) → chosen_block g a ≡ Some block → CleanedBlock g block a b → Cleanings g 1 a b
 unfolding swept_once
 one_cleaned g a b block chosen done =
@@ -92,7 +112,7 @@ one_cleaned g a b block chosen done =
       image = cleaned.image_is;
       tidy = cleaned.after;
       table = cleaned.table;
-      swept = swept_once g a b (has_cleaned_is_swept g a b block chosen cleaned);
+      swept = swept_once g a b (sweeps_block g a b block chosen done);
       count = refl;
       lower = let less = has_cleaned_is_lower g a b block cleaned (chosen_is_candidate g a block chosen).worth in omega (arith, less);
       again = λ can. has_cleaned_can_clean g a b block can cleaned;

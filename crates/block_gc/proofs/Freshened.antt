@@ -17,8 +17,8 @@ use Rattle.page_put.specs.Fresh.{Freshens, IsFresh}
 -- ---- the block holds no live page
 
 module _ (g : Geometry) (block : ℕ) (a : List ℕ) (t : IsTidy g a) (dead : (q : ℕ) → block_of g q ≡ block → live_at g a q ≡ None) where
-  pub fresh_keeps : IsImage g a → (x : List ℕ) → Freshens g block a x → Keeps g a x
-  fresh_keeps is x cut =
+  pub fresh_keeps : IsImage g a → (erases : ℕ) (x : List ℕ) → Freshens g block erases a x → Keeps g a x
+  fresh_keeps is erases x cut =
       erasing-sound g a x block is (λ d low differ. t.magic d low) cut.outside dead
       (⊎_elim
       (λ (same : x ≡ a). λ q here. ap (λ (l : List ℕ). live_at g l q) same ∙ dead q here)

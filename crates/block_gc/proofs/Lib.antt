@@ -15,8 +15,10 @@ pub mod BatchPlaces
 pub mod BatchNames
 pub mod NamesTrimmed
 pub mod BatchRenews
+pub mod BatchRuns
 pub mod BatchCalls
 pub mod BatchDrops
+pub mod BatchFinds
 pub mod BatchEnds
 pub mod Cleanings
 pub mod PlacesBy

@@ -4,7 +4,6 @@ use Rattle.std.specs.Prelude.{unwrap_or}
 use Rattle.std.proofs.lemmas.List.{get_or-take}
 use Rattle.std.proofs.lemmas.Option.{same_Some}
 use Rattle.geometry.specs.declared.geometry.Geometry.{Geometry}
-use Rattle.geometry.specs.Numbers.{head_slots}
 use Rattle.table_model.specs.declared.error.Tag.{Tag}
 use Rattle.table_model.specs.Room.{data_pages}
 use Rattle.trim_laws.specs.Steps.{IsTrimHead}
@@ -14,14 +13,14 @@ use Rattle.image_model.specs.Within.{page_length}
 use Rattle.image_model.specs.Headers.{obj_id, span_of, size_of}
 use Rattle.image_model.specs.Live.{live_at, own}
 use Rattle.image_model.specs.Places.{IsImage}
-use Rattle.image_model.specs.Files.{index_page, span_bytes, index_span}
+use Rattle.image_model.specs.Files.{index_page, span_bytes}
 use Rattle.image_laws.specs.LiveSteps.{PutLeaves, PutDone, KillLeaves}
 use Rattle.image_laws.specs.Put.{IsReadyPage}
-use Rattle.image_laws.specs.Reindex.{Reindexes, slot_word, now_data}
+use Rattle.image_laws.specs.Reindex.{Reindexes, now_data}
 use Rattle.image_laws.proofs.Frames.{live_parts}
 use Rattle.renew_laws.specs.Recopy.{RecopiesTo}
 use Rattle.renew_laws.specs.Replace.{ReplaceCut, Replaced}
-use Rattle.renew_laws.specs.Tails.{KeepsTails}
+use Rattle.renew_laws.specs.Tails.{KeepsTails, FreesEntries}
 use Rattle.renew_laws.proofs.RecopyCuts.{recopy-cuts}
 use Rattle.renew_laws.proofs.RecopyLeaves.{recopied-neat}
 use Rattle.renew_laws.proofs.TailSteps.{tail-copied}
@@ -106,15 +105,14 @@ module _ (g : Geometry) (a0 : List ℕ) (o p : ℕ) (tag : Tag) (work : List ℕ
   start : RecopiesTo g a0 p o id home.h old new home.head pages.0 home.f home.f
   start = record { undamaged = can.neat.undamaged; inside = can.free.entry_page; kind = of_kind g a0 p new can.kind pages.1.new_index; pages = pages.1 }
 
-  -- the copy leads to the same bytes, and its entry behind the last one is free
+  -- the copy leads to the same bytes, and its entries behind the last one are free
   spans : (t : ℕ) → t < data_pages g (size_of home.head) → slice_range (unwrap_or (now_data g (own (live_at g a0) id) home.head new t) []) 5 g.page ≡ span_bytes g (own (live_at g a0) id) home.head t
   spans t below = ap (λ (x : Option (List ℕ)). slice_range (unwrap_or x []) 5 g.page)
       (now_same g old (take g.page work) new (count_of g a0 id) built.copied sets len (own (live_at g a0) id) id o home.h home.head home.f mine first (index_alone g a0 is can.neat id home (span_of old) o first) built.index refl
       home.at home.header home.file count t below)
 
-  next : head_slots g ≤ data_pages g (size_of home.head) → index_span g (data_pages g (size_of home.head)) ≡ span_of old → slot_word g new (data_pages g (size_of home.head)) ≡ 0xFFFF
-  next high at =
-      subst (λ (n : ℕ). slot_word g new n ≡ 0xFFFF) count (free_behind g old (take g.page work) new (count_of g a0 id) built.copied sets (omega (arith, high, count)) (ap (index_span g) count ∙ at))
+  next : FreesEntries g old new home.head
+  next t k high past at low below = free_behind g old (take g.page work) new (count_of g a0 id) built.copied sets t k high (omega (arith, past, count)) at low below
 
   tails : (b : List ℕ) → Replaced g p o new a0 b → KeepsTails g a0 b
   tails b all = tail-copied g a0 b p o id home.h old new home.head pages.0 home.f home.f start all spans next

@@ -10,7 +10,7 @@ use Rattle.trim_laws.specs.Trim.{IsTrimmed}
 use Rattle.trim_laws.proofs.Pages.{named_trimmed, named_size}
 use Rattle.room_laws.proofs.OnTheWay.{all_head, all_tail}
 use Rattle.page_renew.proofs.Trimmed.{slot_near}
-use Rattle.block_gc.specs.declared.batch.Carried.{Carried}
+use Rattle.block_gc.specs.Batches.{Carried}
 use Rattle.block_gc.specs.Batches.{AreNamed}
 
 module _ (g : Geometry) (span : ℕ) (zero : span ≡ 0) (y : List ℕ) where

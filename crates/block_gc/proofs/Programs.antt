@@ -1,6 +1,6 @@
 -- How many programs a turn of a cleaning asks for, over plain images.
 use Rattle.std.proofs.Common.{◌≡◌, ◌≢◌, ℕ, ◌+◌, ◌*◌, ◌<◌, ◌≤◌, List, [], ◌∷◌, length, Bool, true, false, ◌==◌, ◌&&◌, ◌||◌, Option, Some, None, Result, Ok, Err, MatchResult, OnOk, ap, refl, sym, ◌∙◌, arith, ⊎_elim, inl, inr}
-use Rattle.std.specs.Prelude.{All, is_some, min, max, not}
+use Rattle.std.specs.Prelude.{All, is_some, max, not}
 use Rattle.std.proofs.lemmas.Bool.{cases_eq, cases_lt, eq-eqb, eqb-true, ne_eqb, or_cases}
 use Rattle.std.proofs.lemmas.Option.{none-some}
 use Rattle.geometry.specs.declared.geometry.Geometry.{Geometry}
@@ -29,8 +29,8 @@ use Rattle.page_renew.proofs.Homes.{some_index}
 use Rattle.block_gc.specs.Programs.{is_named, begins_batch, batches_in, live_in, moved_with, moved_in, longest_at, NoneBefore}
 use Rattle.block_gc.specs.Turns.{CanEmpty, TurnDone, moving_index}
 use Rattle.block_gc.specs.declared.batch.Batch.{Batch}
-use Rattle.block_gc.specs.declared.batch.Carried.{Carried}
-use Rattle.block_gc.specs.Batches.{move_of, moves_of, are_from, IsOfBatch, IsCarried, Carries, CarriesAll, HaveLeft, CanMoveFrom, carrying_batch, ending_batch}
+use Rattle.block_gc.specs.declared.batch.Run.{Run}
+use Rattle.block_gc.specs.Batches.{Carried, move_of, moves_of, are_from, IsOfBatch, IsCarried, Carries, CarriesAll, EndsRun, HaveLeft, CanMoveFrom, carrying_batch, ending_batch}
 use Rattle.block_gc.proofs.BatchCalls.{live_was}
 use Rattle.block_gc.proofs.PagesMoved.{named_parts, named_from, BatchWent, batch_falls}
 use Rattle.block_gc.proofs.Ranks.{count_less}
@@ -109,19 +109,19 @@ module _ (g : Geometry) (was mid now : List ℕ) (block most : ℕ) (batch : Bat
       by None e = old (live_at g was q) refl e
       by (Some x) e = e ∙ sym (live_was g was mid block most batch cs c q x here e)
 
-  went : BatchWent g was now block batch.id batch.span (min 64 most) (are_from cs)
+  went : BatchWent g was now block batch.id batch.span most (are_from cs)
   went = record {
     of = λ q here is. went_named g was mid block batch cs c.pages q is;
     gone = λ q here is. left.gone q here is;
     others = λ q here no. left.others q here no ∙ same_in q here;
     some = let s = some_carried cs page all.begun in omega (arith, s, counted);
     full = ⊎_elim
-        (λ (short : length cs < min 64 most). inr (λ q here named. own q here named short))
-        (λ (long : min 64 most ≤ length cs). inl (omega (arith, long, counted)))
-        (cases_lt (length cs) (min 64 most));
+        (λ (short : length cs < most). inr (λ q here named. own q here named short))
+        (λ (long : most ≤ length cs). inl (omega (arith, long, counted)))
+        (cases_lt (length cs) most);
   }
     where
-      own : (q : ℕ) → block_of g q ≡ block → is_named g batch.id batch.span (live_at g was q) ≡ true → length cs < min 64 most → are_from cs q ≡ true
+      own : (q : ℕ) → block_of g q ≡ block → is_named g batch.id batch.span (live_at g was q) ≡ true → length cs < most → are_from cs q ≡ true
       own q here named short =
           let x = of_named g was mid block batch q (live_at g was q) refl named in
           ⊎_elim
@@ -130,30 +130,38 @@ module _ (g : Geometry) (was mid now : List ℕ) (block most : ℕ) (batch : Bat
           (λ (same : q ≡ page). rw same all.begun)
           (λ (other : q ≡ page → ⊥). ⊎_elim
           (λ (is : are_from cs q ≡ true). is)
-          (λ (long : min 64 most ≤ length cs). absurd (omega (arith, long, short)))
+          (λ (long : most ≤ length cs). absurd (omega (arith, long, short)))
           (all.full q (span_of x.0) here (omega (arith, high, other)) x.1))
           (cases_eq q page))
           (cases_lt q page)
 
-  pub batch_goes : moved_with g now block (min 64 most) + (length cs + 1) ≤ moved_with g was block (min 64 most)
+  pub batch_goes : moved_with g now block most + (length cs + 1) ≤ moved_with g was block most
   batch_goes =
-      let f = batch_falls g was now block batch.id batch.span (min 64 most) (are_from cs) c.low (omega (arith, one)) went in
+      let f = batch_falls g was now block batch.id batch.span most (are_from cs) c.low (omega (arith, one)) went in
       omega (arith, f, counted)
 
 -- a batch as a step over these numbers
-abbrev pub counting : (block most : ℕ) → Batch → (page span : ℕ) → (cs : List Carried) → Step (Unit {0})
-counting block most batch page span cs = record {
+abbrev pub counting : (block most : ℕ) → Batch → (page span : ℕ) → Run → Step (Unit {0})
+counting block most batch page span run = record {
   needs = λ g was. CanMoveFrom g was block most batch page span × NoneBefore g was block page;
   cut = λ g was image. Unit {0};
-  done = λ g was now ok. moved_with g now block (min 64 most) + (length cs + 1) ≤ moved_with g was block (min 64 most);
+  done = λ g was now ok. moved_with g now block most + (run.count + 1) ≤ moved_with g was block most;
 }
 
-pub counting_begins : (g : Geometry) (was : List ℕ) (block most : ℕ) (batch : Batch) (page span : ℕ) (new cs : List Carried) → CanMoveFrom g was block most batch page span → Begins g was (carrying_batch block most batch new page span) (counting block most batch page span cs)
-counting_begins g was block most batch page span new cs can = record { needs = can; cut = λ c cut. tt }
+pub counting_begins : (g : Geometry) (was : List ℕ) (block most : ℕ) (batch : Batch) (page span : ℕ) (run : Run) → CanMoveFrom g was block most batch page span →
+    Begins g was (carrying_batch block most batch page span) (counting block most batch page span run)
+counting_begins g was block most batch page span run can = record { needs = can; cut = λ c cut. tt }
 
-pub counting_then : (g : Geometry) (was mid : List ℕ) (block most : ℕ) (batch : Batch) (page span : ℕ) (cs : List Carried) → CanMoveFrom g was block most batch page span × NoneBefore g was block page → CarriesAll g was block most batch page cs mid →
-    Finishes g was mid (ending_batch was block most batch page cs) (counting block most batch page span cs)
-counting_then g was mid block most batch page span cs need all = record { needs = all; cut = λ c cut. tt; done = λ now ok done. batch_goes g was mid now block most batch page cs need.0.most_is all done.1 need.1 }
+pub counting_then : (g : Geometry) (was mid : List ℕ) (block most : ℕ) (batch : Batch) (page span : ℕ) (run : Run) → CanMoveFrom g was block most batch page span × NoneBefore g was block page →
+    (cs : List Carried) × EndsRun g was block most batch page run cs mid → Finishes g was mid (ending_batch was block most batch page run) (counting block most batch page span run)
+counting_then g was mid block most batch page span run need all = record {
+  needs = all;
+  cut = λ c cut. tt;
+  done = λ now ok done.
+      let f = batch_goes g was mid now block most batch page all.0 need.0.most_is all.1.all (done.1 all.0 all.1) need.1 in
+      let many = all.1.run_is.many in
+      omega (arith, f, many);
+}
 
 -- ---- an index page
 
@@ -218,9 +226,9 @@ index_falls g was block longest p need = record {
 
 -- ---- the longest batch
 
-pub longest_is : (g : Geometry) (a : List ℕ) (block most : ℕ) (c : BlockCounts) → IsTidy g a → block < g.blocks → AreCounts g a block c → most ≡ max 1 (c.deleted + c.free) → moved_with g a block (min 64 most) ≡ moved_in g a block
+pub longest_is : (g : Geometry) (a : List ℕ) (block most : ℕ) (c : BlockCounts) → IsTidy g a → block < g.blocks → AreCounts g a block c → most ≡ max 1 (c.deleted + c.free) → moved_with g a block most ≡ moved_in g a block
 longest_is g a block most c t low counts is =
     let deleted : c.deleted ≡ deleted_in g a block = counts.deleted in
     let free : c.free ≡ free_in g a block = counts.free ∙ free_counted g a block (tidy_tells_free g a t) low in
-    let same : min 64 most ≡ longest_at g a block = omega (arith, is, deleted, free) in
+    let same : most ≡ longest_at g a block = omega (arith, is, deleted, free) in
     ap (moved_with g a block) same

@@ -1,5 +1,6 @@
 -- A batch of data pages that goes out of a block: what holds once some of them were carried, and while the old pages are killed.
-use Rattle.std.specs.Prelude.{◌≡◌, ◌≢◌, ℕ, ◌+◌, ◌*◌, ◌%◌, ◌<◌, ◌≤◌, ◌⊎◌, List, [], ◌∷◌, ◌++◌, length, map, reverse, Bool, true, false, ◌==◌, ◌||◌, Option, Some, None, Ok, All, slice_index, slice_range, take, min}
+use Rattle.std.specs.Prelude.{◌≡◌, ◌≢◌, ℕ, ◌+◌, ◌*◌, ◌%◌, ◌<◌, ◌≤◌, ◌⊎◌, List, [], ◌∷◌, ◌++◌, length, map, reverse, Bool, true, false, ◌==◌, ◌||◌, Option, Some}
+use Rattle.std.specs.Prelude.{None, Ok, All, slice_index, slice_range, take, nat_lt, if◌then◌else◌}
 use Rattle.geometry.specs.declared.geometry.Geometry.{Geometry}
 use Rattle.table_model.specs.Table.{File}
 use Rattle.table_model.specs.declared.error.Tag.{Tag}
@@ -24,7 +25,13 @@ use Rattle.flash_view.specs.Steps.{Step}
 use Rattle.page_renew.specs.Built.{IsBuilt, IsNamed}
 use Rattle.block_gc.specs.Turns.{CanEmpty, TurnCut, TurnDone, CanMoveBatch}
 use Rattle.block_gc.specs.declared.batch.Batch.{Batch}
-use Rattle.block_gc.specs.declared.batch.Carried.{Carried}
+use Rattle.block_gc.specs.declared.batch.Run.{Run}
+
+-- a data page of which a copy was put: the page, its copy, and the span of both
+pub record Carried : Type 0 where
+  pub from : ℕ
+  pub to : ℕ
+  pub span : ℕ
 
 -- ---- lists of pages that were carried, the last one in front
 
@@ -44,15 +51,15 @@ abbrev pub are_to : List Carried → ℕ → Bool
 are_to [] r = false
 are_to (c ∷ cs) r = are_to cs r || (r == c.to)
 
--- the list has one more, from that page
-pub record HasMore (page : ℕ) (was now : List Carried) : Type 0 where
-  pub more : Carried
-  pub from : more.from ≡ page
-  pub list : now ≡ was ++ more ∷ []
+-- each was carried from a page behind those of all others after it in the list
+unfoldable pub IsFalling : List Carried → Type 0
+IsFalling [] = Unit {0}
+IsFalling (c ∷ cs) = All (λ (d : Carried). d.from < c.from) cs × IsFalling cs
 
--- all of them were carried from entry pages
-abbrev pub AreEntries : Geometry → List Carried → Type 0
-AreEntries g cs = All (λ (c : Carried). IsEntryPage g c.from) cs
+-- those of such a list that were carried from pages before page n
+unfoldable pub below : (n : ℕ) → List Carried → List Carried
+below n [] = []
+below n (c ∷ cs) = if nat_lt c.from n then c ∷ cs else below n cs
 
 -- ---- the batch
 
@@ -159,60 +166,83 @@ pub record CanCarryTo (g : Geometry) (was : List ℕ) (block most : ℕ) (batch 
   pub place : IsPlaceBy g (sort_at g image) block for_data to
   pub kind : is_index_block g image (block_of g to) ≡ false
 
--- The page that begins the batch was carried, and of those behind it none from page `next` on. Of those before page `next` all of the batch were, or it is as long as it may be.
-pub record CarriesTo (g : Geometry) (was : List ℕ) (block most : ℕ) (batch : Batch) (page next : ℕ) (cs : List Carried) (image : List ℕ) : Type 0 where
+-- The list has the pages of the batch from page `first` on and before the end of the run, which are as many as the run counts.
+pub record IsRun (g : Geometry) (was : List ℕ) (block : ℕ) (batch : Batch) (first : ℕ) (run : Run) (cs : List Carried) : Type 0 where
+  pub falls : IsFalling cs
+  pub many : length cs ≡ run.count
+  pub inside : All (λ (c : Carried). (first ≤ c.from) × (c.from < run.end)) cs
+  pub of : All (λ (c : Carried). IsOfBatch g was batch c.from c.span) cs
+  pub each : (r span : ℕ) → block_of g r ≡ block → first ≤ r → r < run.end → IsOfBatch g was batch r span → are_from cs r ≡ true
+
+-- Copies of those pages were put.
+pub record HasCopies (g : Geometry) (was : List ℕ) (block most : ℕ) (batch : Batch) (first : ℕ) (run : Run) (cs : List Carried) (image : List ℕ) : Type 0 where
   pub so_far : Carries g was block most batch cs image
-  pub begun : are_from cs page ≡ true
-  pub behind : (r : ℕ) → page < r → next ≤ r → All (λ (c : Carried). r ≢ c.from) cs
-  pub full : (r span : ℕ) → block_of g r ≡ block → page < r → r < next → IsOfBatch g was batch r span → (are_from cs r ≡ true) ⊎ (min 64 most ≤ length cs)
+  pub run_is : IsRun g was block batch first run cs
+
+-- page p lies in the block, from page `first` on and before the end of the run
+pub record IsTurnOf (g : Geometry) (block first : ℕ) (run : Run) (p : ℕ) : Type 0 where
+  pub at : block_of g p ≡ block
+  pub from : first ≤ p
+  pub before : p < run.end
+
+-- Copies were put of all pages of the batch from page `first` on and before page `next`, or of as many as may be.
+pub record CarriesTo (g : Geometry) (was : List ℕ) (block most : ℕ) (batch : Batch) (first next : ℕ) (run : Run) (cs : List Carried)
+    (image : List ℕ) : Type 0 where
+  pub copies : HasCopies g was block most batch first run cs image
+  pub full : (r span : ℕ) → block_of g r ≡ block → first ≤ r → r < next → IsOfBatch g was batch r span → (are_from cs r ≡ true) ⊎ (most ≤ length cs)
 
 -- one more page is carried to a place that was found
-abbrev pub carrying_to : (was : List ℕ) (block most : ℕ) → Batch → (cs : List Carried) (q to span : ℕ) → Step (Unit {0})
-carrying_to was block most batch cs q to span = record {
-  needs = λ g image. CanCarryTo g was block most batch cs q to span image;
+abbrev pub carrying_to : (was : List ℕ) (block most : ℕ) → Batch → (q to span : ℕ) → Step (Unit {0})
+carrying_to was block most batch q to span = record {
+  needs = λ g image. (cs : List Carried) × CanCarryTo g was block most batch cs q to span image;
   cut = λ g image cut. TurnCut g block most was cut;
-  done = λ g image now ok. Carries g was block most batch (record { from = q; to = to; span = span } ∷ cs) now;
+  done = λ g image now ok. (cs : List Carried) → CanCarryTo g was block most batch cs q to span image →
+      Carries g was block most batch (record { from = q; to = to; span = span } ∷ cs) now;
 }
 
--- ---- and with the lists of the program, the last one at the end
-
--- one more page is carried
-abbrev pub carrying : (was : List ℕ) (block most : ℕ) → Batch → (old new : List Carried) (q span : ℕ) → Step (Unit {0})
-carrying was block most batch old new q span = record {
-  needs = λ g image. CanCarry g was block most batch (reverse old) q span image;
+-- one more page is carried: where its copy was put
+abbrev pub carrying : (was : List ℕ) (block most : ℕ) → Batch → (q span : ℕ) → Step ℕ
+carrying was block most batch q span = record {
+  needs = λ g image. (cs : List Carried) × CanCarry g was block most batch cs q span image;
   cut = λ g image cut. TurnCut g block most was cut;
-  done = λ g image now ok. Carries g was block most batch (reverse new) now × HasMore q old new;
+  done = λ g image now to. (cs : List Carried) → CanCarry g was block most batch cs q span image →
+      Carries g was block most batch (record { from = q; to = to; span = span } ∷ cs) now;
 }
 
--- a page behind the first one has its turn
-abbrev pub carrying_turn : (was : List ℕ) (block most : ℕ) → Batch → (old new : List Carried) (page q : ℕ) → Step (Unit {0})
-carrying_turn was block most batch old new page q = record {
-  needs = λ g image. CarriesTo g was block most batch page q (reverse old) image × (block_of g q ≡ block);
+-- a page has its turn: the run with it, if it is one of the batch
+abbrev pub carrying_turn : (was : List ℕ) (block most : ℕ) → Batch → (first q : ℕ) → Run → Step Run
+carrying_turn was block most batch first q run = record {
+  needs = λ g image. ((cs : List Carried) × CarriesTo g was block most batch first q run cs image) × (block_of g q ≡ block) × (first ≤ q);
   cut = λ g image cut. TurnCut g block most was cut;
-  done = λ g image now ok. CarriesTo g was block most batch page (q + 1) (reverse new) now;
+  done = λ g image now new. (cs : List Carried) × CarriesTo g was block most batch first (q + 1) new cs now;
 }
 
 -- All that go with the batch were carried: those of the block that its index page names, or as many as may be.
 pub record CarriesAll (g : Geometry) (was : List ℕ) (block most : ℕ) (batch : Batch) (page : ℕ) (cs : List Carried) (image : List ℕ) : Type 0 where
   pub so_far : Carries g was block most batch cs image
   pub begun : are_from cs page ≡ true
-  pub full : (r span : ℕ) → block_of g r ≡ block → page < r → IsOfBatch g was batch r span → (are_from cs r ≡ true) ⊎ (min 64 most ≤ length cs)
+  pub full : (r span : ℕ) → block_of g r ≡ block → page < r → IsOfBatch g was batch r span → (are_from cs r ≡ true) ⊎ (most ≤ length cs)
 
--- those behind the first one have their turns, up to a page
-abbrev pub carrying_rest : (was : List ℕ) (block most : ℕ) → Batch → (old new : List Carried) (page next : ℕ) → Step (Unit {0})
-carrying_rest was block most batch old new page next = record {
-  needs = λ g image. CarriesTo g was block most batch page 0 (reverse old) image;
-  cut = λ g image cut. TurnCut g block most was cut;
-  done = λ g image now ok. CarriesTo g was block most batch page next (reverse new) now;
-}
+-- The run ends there.
+pub record EndsRun (g : Geometry) (was : List ℕ) (block most : ℕ) (batch : Batch) (first : ℕ) (run : Run) (cs : List Carried) (image : List ℕ) : Type 0 where
+  pub all : CarriesAll g was block most batch first cs image
+  pub run_is : IsRun g was block batch first run cs
 
--- all behind the first one have their turns
-abbrev pub carrying_all : (was : List ℕ) (block most : ℕ) → Batch → (old new : List Carried) (page : ℕ) → Step (Unit {0})
-carrying_all was block most batch old new page = record {
-  needs = λ g image. CarriesTo g was block most batch page 0 (reverse old) image;
-  cut = λ g image cut. TurnCut g block most was cut;
-  done = λ g image now ok. CarriesAll g was block most batch page (reverse new) now;
-}
+-- ---- copies are found again
+
+-- Page p is a live data page of that id and span, and lies outside the block.
+pub record IsCopyAt (g : Geometry) (image : List ℕ) (id span block p : ℕ) : Type 0 where
+  pub page : List ℕ
+  pub live : live_at g image p ≡ Some page
+  pub kind : names_index page ≡ false
+  pub id_is : obj_id page ≡ id
+  pub span_is : span_of page ≡ span
+  pub apart : block_of g p ≢ block
+
+-- it is such a page, or there is none from page `from` on
+abbrev pub FirstCopy : Geometry → (image : List ℕ) (id span block from : ℕ) → Option ℕ → Type 0
+FirstCopy g image id span block from None = (p : ℕ) → from ≤ p → IsCopyAt g image id span block p → ⊥
+FirstCopy g image id span block from (Some p) = IsCopyAt g image id span block p
 
 -- ---- the index page is renewed
 
@@ -289,43 +319,55 @@ pub record HaveLeft (g : Geometry) (block : ℕ) (cs : List Carried) (was now : 
   pub others : (r : ℕ) → block_of g r ≡ block → are_from cs r ≡ false → live_at g now r ≡ live_at g was r
 
 -- the index page is renewed at a place that was found
-abbrev pub renaming_to : (was : List ℕ) (block most : ℕ) → Batch → (page to : ℕ) (cs : List Carried) → Step (Unit {0})
-renaming_to was block most batch page to cs = record {
-  needs = λ g image. CanRenameTo g was block most batch page to cs image;
+abbrev pub renaming_to : (was : List ℕ) (block most : ℕ) → Batch → (first to : ℕ) → Run → Step (Unit {0})
+renaming_to was block most batch first to run = record {
+  needs = λ g image. (cs : List Carried) × CanRenameTo g was block most batch first to cs image × IsRun g was block batch first run cs;
   cut = λ g image cut. TurnCut g block most was cut;
-  done = λ g image now ok. Drops g was block most page cs now × StaysIn g block image now;
+  done = λ g image now ok. (cs : List Carried) → CanRenameTo g was block most batch first to cs image → IsRun g was block batch first run cs →
+      Drops g was block most first cs now × StaysIn g block image now;
 }
 
 -- the index page is renewed
-abbrev pub renaming : (was : List ℕ) (block most : ℕ) → Batch → (page : ℕ) (cs : List Carried) → Step (Unit {0})
-renaming was block most batch page cs = record {
-  needs = λ g image. CarriesAll g was block most batch page cs image;
+abbrev pub renaming : (was : List ℕ) (block most : ℕ) → Batch → (first : ℕ) → Run → Step (Unit {0})
+renaming was block most batch first run = record {
+  needs = λ g image. (cs : List Carried) × EndsRun g was block most batch first run cs image;
   cut = λ g image cut. TurnCut g block most was cut;
-  done = λ g image now ok. Drops g was block most page cs now × StaysIn g block image now;
+  done = λ g image now ok. (cs : List Carried) → EndsRun g was block most batch first run cs image →
+      Drops g was block most first cs now × StaysIn g block image now;
 }
 
--- the first one that is left is killed
-abbrev pub dropping : (was : List ℕ) (block most page : ℕ) → Carried → (left : List Carried) → Step (Unit {0})
-dropping was block most page c left = record {
-  needs = λ g image. Drops g was block most page (c ∷ left) image;
+-- Of the pages of a run those before page `next` are left to be killed, so many.
+pub record DropsTo (g : Geometry) (was : List ℕ) (block most : ℕ) (batch : Batch) (first next : ℕ) (run : Run) (left : ℕ) (cs : List Carried)
+    (image : List ℕ) : Type 0 where
+  pub drops : Drops g was block most first (below next cs) image
+  pub run_is : IsRun g was block batch first run cs
+  pub many : length (below next cs) ≡ left
+
+-- a page has its turn: it is killed if it is one of the batch, and so many are left
+abbrev pub dropping_turn : (was : List ℕ) (block most : ℕ) → Batch → (first : ℕ) → Run → (q left : ℕ) → Step ℕ
+dropping_turn was block most batch first run q left = record {
+  needs = λ g image. ((cs : List Carried) × DropsTo g was block most batch first (q + 1) run left cs image) × IsTurnOf g block first run q;
   cut = λ g image cut. TurnCut g block most was cut;
-  done = λ g image now ok. Drops g was block most page left now × HaveGone g (c ∷ left) left image now;
+  done = λ g image now rest. (cs : List Carried) → DropsTo g was block most batch first (q + 1) run left cs image →
+      DropsTo g was block most batch first q run rest cs now × HaveGone g (below (q + 1) cs) (below q cs) image now;
 }
 
--- those that are left are killed, until others are left
-abbrev pub dropping_all : (was : List ℕ) (block most page : ℕ) → (from left : List Carried) → Step (Unit {0})
-dropping_all was block most page from left = record {
-  needs = λ g image. Drops g was block most page from image;
+-- all pages of a run are killed
+abbrev pub dropping_all : (was : List ℕ) (block most : ℕ) → Batch → (first : ℕ) → Run → Step (Unit {0})
+dropping_all was block most batch first run = record {
+  needs = λ g image. (cs : List Carried) × Drops g was block most first cs image × IsRun g was block batch first run cs;
   cut = λ g image cut. TurnCut g block most was cut;
-  done = λ g image now ok. Drops g was block most page left now × HaveGone g from left image now;
+  done = λ g image now ok. (cs : List Carried) → Drops g was block most first cs image → IsRun g was block batch first run cs →
+      Drops g was block most first [] now × HaveGone g cs [] image now;
 }
 
 -- where all were carried the index page is renewed, and the old pages are killed
-abbrev pub ending_batch : (was : List ℕ) (block most : ℕ) → Batch → (page : ℕ) (cs : List Carried) → Step (Unit {0})
-ending_batch was block most batch page cs = record {
-  needs = λ g image. CarriesAll g was block most batch page cs image;
+abbrev pub ending_batch : (was : List ℕ) (block most : ℕ) → Batch → (first : ℕ) → Run → Step (Unit {0})
+ending_batch was block most batch first run = record {
+  needs = λ g image. (cs : List Carried) × EndsRun g was block most batch first run cs image;
   cut = λ g image cut. TurnCut g block most was cut;
-  done = λ g image now ok. TurnDone g block page was now × HaveLeft g block cs image now;
+  done = λ g image now ok. TurnDone g block first was now
+      × ((cs : List Carried) → EndsRun g was block most batch first run cs image → HaveLeft g block cs image now);
 }
 
 -- A page of a tidy image is one of a batch.
@@ -337,12 +379,12 @@ pub record CanMoveFrom (g : Geometry) (was : List ℕ) (block most : ℕ) (batch
   pub index : IsIndexOf g was batch
   pub of : IsOfBatch g was batch page span
 
--- all pages of the batch that a page begins are carried
-abbrev pub carrying_batch : (block most : ℕ) → Batch → (new : List Carried) (page span : ℕ) → Step (Unit {0})
-carrying_batch block most batch new page span = record {
+-- all pages of the batch that a page begins are carried: the run of their copies
+abbrev pub carrying_batch : (block most : ℕ) → Batch → (page span : ℕ) → Step Run
+carrying_batch block most batch page span = record {
   needs = λ g was. CanMoveFrom g was block most batch page span;
   cut = λ g was image. TurnCut g block most was image;
-  done = λ g was now ok. CarriesAll g was block most batch page (reverse new) now;
+  done = λ g was now run. (cs : List Carried) × EndsRun g was block most batch page run cs now;
 }
 
 -- and moved

@@ -29,4 +29,5 @@ pub record CleanedBlock (g : Geometry) (block : ℕ) (was now : List ℕ) : Type
   pub tails : KeepsTails g was now
 
 abbrev pub cleaning_block : ℕ → Step (Unit {0})
-cleaning_block block = record { needs = λ g was. CanCleanBlock g was block; cut = λ g was image. CleanCut g block was image; done = λ g was now ok. CleanedBlock g block was now }
+cleaning_block block =
+    record { needs = λ g was. CanCleanBlock g was block; cut = λ g was image. CleanCut g block was image; done = λ g was now ok. CleanedBlock g block was now }

@@ -40,4 +40,5 @@ pub record IndexMoved (g : Geometry) (page to : ℕ) (was now : List ℕ) : Type
   pub replaced : Replaced g to page copy was now
 
 abbrev pub moving : (page to : ℕ) → Step (Unit {0})
-moving page to = record { needs = λ g was. CanMove g was page to; cut = λ g was image. IndexCut g page to was image; done = λ g was now ok. IndexMoved g page to was now }
+moving page to =
+    record { needs = λ g was. CanMove g was page to; cut = λ g was image. IndexCut g page to was image; done = λ g was now ok. IndexMoved g page to was now }

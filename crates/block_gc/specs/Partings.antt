@@ -48,7 +48,8 @@ pub record PartsPage (g : Geometry) (page : ℕ) (was now : List ℕ) : Type 0 w
   pub others : (q : ℕ) → IsBesideData g now q → IsBesideData g was q
 
 abbrev pub parting_page : (page : ℕ) → Step (Unit {0})
-parting_page page = record { needs = λ g was. IsNeat g was × FitsWith g was 0; cut = λ g was image. PartCut g was image; done = λ g was now ok. PartsPage g page was now }
+parting_page page =
+    record { needs = λ g was. IsNeat g was × FitsWith g was 0; cut = λ g was image. PartCut g was image; done = λ g was now ok. PartsPage g page was now }
 
 -- All index pages below page `at` had their turns.
 pub record PartsTo (g : Geometry) (at : ℕ) (was now : List ℕ) : Type 0 where
@@ -56,4 +57,5 @@ pub record PartsTo (g : Geometry) (at : ℕ) (was now : List ℕ) : Type 0 where
   pub none : (page : ℕ) → page < at → IsBesideData g now page → ⊥
 
 abbrev pub parting_to : (at : ℕ) → Step (Unit {0})
-parting_to at = record { needs = λ g was. IsNeat g was × FitsWith g was 0; cut = λ g was image. PartCut g was image; done = λ g was now ok. PartsTo g at was now }
+parting_to at =
+    record { needs = λ g was. IsNeat g was × FitsWith g was 0; cut = λ g was image. PartCut g was image; done = λ g was now ok. PartsTo g at was now }

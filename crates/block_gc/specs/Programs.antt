@@ -1,5 +1,5 @@
 -- How many pages a cleaning moves, each by six programs.
-use Rattle.std.specs.Prelude.{◌≡◌, ℕ, ◌+◌, ◌*◌, ◌%◌, ◌<◌, ◌≤◌, List, Bool, false, not, nat_lt, ◌==◌, ◌&&◌, Option, Some, None, is_some, max, min}
+use Rattle.std.specs.Prelude.{◌≡◌, ℕ, ◌+◌, ◌*◌, ◌%◌, ◌<◌, ◌≤◌, List, Bool, false, not, nat_lt, ◌==◌, ◌&&◌, Option, Some, None, is_some, max}
 use Rattle.geometry.specs.declared.geometry.Geometry.{Geometry}
 use Rattle.image_model.specs.Collect.{count_in, deleted_in, free_in}
 use Rattle.image_model.specs.Files.{index_span}
@@ -34,9 +34,9 @@ live_in g image block = count_in g block (λ p. is_some (live_at g image p))
 abbrev pub moved_with : Geometry → List ℕ → (block longest : ℕ) → ℕ
 moved_with g image block longest = live_in g image block + batches_in g image block longest
 
--- the longest batch of a cleaning: as many as the entries of the block that aren't live, at least one and at most 64
+-- the longest batch of a cleaning: as many as the entries of the block that aren't live, at least one
 abbrev pub longest_at : Geometry → List ℕ → (block : ℕ) → ℕ
-longest_at g image block = min 64 (max 1 (deleted_in g image block + free_in g image block))
+longest_at g image block = max 1 (deleted_in g image block + free_in g image block)
 
 -- the pages that a cleaning of a block moves
 abbrev pub moved_in : Geometry → List ℕ → (block : ℕ) → ℕ
@@ -44,7 +44,7 @@ moved_in g image block = moved_with g image block (longest_at g image block)
 
 -- Each page that went out of a block from one image to another cost six programs at most, by the counts of programs and erases before and after.
 abbrev pub SixEach : Geometry → (block most : ℕ) → (was now : List ℕ) → (before after : ℕ) → Type 0
-SixEach g block most was now before after = after + 6 * moved_with g now block (min 64 most) ≤ before + 6 * moved_with g was block (min 64 most)
+SixEach g block most was now before after = after + 6 * moved_with g now block most ≤ before + 6 * moved_with g was block most
 
 -- no page of a block before this one is live
 abbrev pub NoneBefore : Geometry → List ℕ → (block page : ℕ) → Type 0

@@ -1,5 +1,5 @@
 -- What cleaning block after block leaves, and where it stops.
-use Rattle.std.specs.Prelude.{◌≡◌, ℕ, ◌+◌, ◌<◌, ◌≤◌, ◌⊎◌, List, [], ◌∷◌, length, Option, Bool, true, false, Some, None}
+use Rattle.std.specs.Prelude.{◌≡◌, ℕ, ◌+◌, ◌<◌, ◌≤◌, ◌⊎◌, List, [], ◌∷◌, length, Option, Bool, true, false, Some, None, Result, Ok, Err}
 use Rattle.geometry.specs.declared.geometry.Geometry.{Geometry}
 use Rattle.geometry.specs.Numbers.{ceil, entries}
 use Rattle.table_model.specs.Room.{index_count, data_count}
@@ -8,6 +8,7 @@ use Rattle.image_model.specs.Tables.{table_of}
 use Rattle.image_model.specs.Tidy.{IsTidy, free_blocks, HasReserve}
 use Rattle.image_model.specs.Collect.{is_worth, chosen_block, Swept, are_had, is_stuck}
 use Rattle.image_model.specs.Sound.{Keeps}
+use Rattle.trim_laws.specs.Wear.{IsRenewed}
 use Rattle.renew_laws.specs.Tails.{KeepsTails}
 use Rattle.flash_view.specs.Steps.{is_apart, Step as Stage}
 use Rattle.room_laws.specs.Stopping.{gc_measure, CanClean, IsPacked}
@@ -22,6 +23,12 @@ use Rattle.block_gc.specs.declared.room.RoomErr.TheVariants.{Step, Tight}
 -- a fault of the device, or want of room
 abbrev pub IsFaultOrTight : RoomErr → Type 0
 IsFaultOrTight why = (why ≡ Step DeviceFault) ⊎ (why ≡ Tight)
+
+-- P, unless a cleaning failed: where room was made, and where there was none to be made
+abbrev pub UnlessFailed : Result (Unit {0}) RoomErr → Type 0 → Type 0
+UnlessFailed (Ok x) P = P
+UnlessFailed (Err Tight) P = P
+UnlessFailed (Err (Step why)) P = Unit {0}
 
 -- where a page is damaged, what was wanted there and what was found differ
 abbrev pub is_apart_in : RoomErr → Type 0
@@ -53,10 +60,15 @@ pub record CollectCut (g : Geometry) (was image : List ℕ) : Type 0 where
   pub keeps : Keeps g was image
   pub mends : CanClean g was → Recovers g image
 
+-- A swept step: the chosen block is made fresh with the next erase count, and every other block keeps its own.
+pub record SweepsBlock (g : Geometry) (before image : List ℕ) : Type 0 where
+  pub swept : Swept g before image
+  pub fresh : IsRenewed g swept.block before image
+
 -- An image was reached from a first one by swept steps: these are the images from which each of them began, the last one first.
 unfoldable pub SweptAlong : Geometry → (first : List ℕ) → List (List ℕ) → (image : List ℕ) → Type 0
 SweptAlong g first [] image = image ≡ first
-SweptAlong g first (before ∷ more) image = SweptAlong g first more before × Swept g before image
+SweptAlong g first (before ∷ more) image = SweptAlong g first more before × SweepsBlock g before image
 
 pub record SweptTo (g : Geometry) (first image : List ℕ) : Type 0 where
   pub through : List (List ℕ)
@@ -67,7 +79,8 @@ unfoldable pub NoneIs : (List ℕ → Type 0) → List (List ℕ) → Type 0
 NoneIs is [] = Unit {0}
 NoneIs is (image ∷ images) = (is image → ⊥) × NoneIs is images
 
--- After n cleanings the image is tidy with the table of the first, and can be cleaned where the first could. Each was a swept step, has lowered the number that cleanings lower, and leaves an image that mends where it did. Tails that were ready are so still.
+-- After n cleanings the image is tidy with the table of the first, and can be cleaned where the first could.
+-- Each was a swept step, has lowered the number that cleanings lower, and leaves an image that mends where it did. Tails that were ready are so still.
 pub record Cleanings (g : Geometry) (n : ℕ) (was now : List ℕ) : Type 0 where
   pub image : IsImage g now
   pub tidy : IsTidy g now
@@ -84,7 +97,8 @@ abbrev pub CleanedOrNone : Geometry → Bool → (was now : List ℕ) → Type 0
 CleanedOrNone g true was now = Cleanings g 1 was now
 CleanedOrNone g false was now = (chosen_block g was ≡ None) × (now ≡ was)
 
--- The image is tidy with its table, so many pages of each kind are had, and two blocks are free. Each cleaning began where that wasn't so. Tails that were ready are so still.
+-- The image is tidy with its table, so many pages of each kind are had, and two blocks are free. Each cleaning began where that wasn't so.
+-- Tails that were ready are so still.
 pub record MadeRoom (g : Geometry) (index pages : ℕ) (was now : List ℕ) : Type 0 where
   pub tidy : IsTidy g now
   pub table : table_of g now ≡ table_of g was
@@ -93,7 +107,8 @@ pub record MadeRoom (g : Geometry) (index pages : ℕ) (was now : List ℕ) : Ty
   pub ready : IsReady g now index pages
   pub tails : KeepsTails g was now
 
--- The image is tidy with its table, no block is chosen, and the pages aren't had or fewer than two blocks are free, as where each cleaning began. It can be cleaned where the first could, and has its reserve where the first had. Tails that were ready are so still.
+-- The image is tidy with its table, no block is chosen, and the pages aren't had or fewer than two blocks are free, as where each cleaning began.
+-- It can be cleaned where the first could, and has its reserve where the first had. Tails that were ready are so still.
 pub record IsTight (g : Geometry) (index pages : ℕ) (was now : List ℕ) : Type 0 where
   pub tidy : IsTidy g now
   pub table : table_of g now ≡ table_of g was
@@ -105,7 +120,8 @@ pub record IsTight (g : Geometry) (index pages : ℕ) (was now : List ℕ) : Typ
   pub reserve : HasReserve g was → HasReserve g now
   pub tails : KeepsTails g was now
 
--- The image is tidy with its table, and packed: no block is worth cleaning, and all blocks are free but those that the pages of each kind need. It has its reserve where the first had. Tails that were ready are so still.
+-- The image is tidy with its table, and packed: no block is worth cleaning, and all blocks are free but those that the pages of each kind need.
+-- It has its reserve where the first had. Tails that were ready are so still.
 pub record IsCompact (g : Geometry) (was now : List ℕ) : Type 0 where
   pub tidy : IsTidy g now
   pub table : table_of g now ≡ table_of g was
@@ -117,7 +133,8 @@ pub record IsCompact (g : Geometry) (was now : List ℕ) : Type 0 where
   pub reserve : HasReserve g was → HasReserve g now
   pub tails : KeepsTails g was now
 
--- The image is tidy with its table, and collection is stuck. It can be cleaned where the first could, and has its reserve where the first had. Tails that were ready are so still.
+-- The image is tidy with its table, and collection is stuck. It can be cleaned where the first could, and has its reserve where the first had.
+-- Tails that were ready are so still.
 pub record IsStuck (g : Geometry) (was now : List ℕ) : Type 0 where
   pub tidy : IsTidy g now
   pub table : table_of g now ≡ table_of g was

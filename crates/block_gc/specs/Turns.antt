@@ -47,13 +47,19 @@ pub record CanMoveBatch (g : Geometry) (image : List ℕ) (block p : ℕ) : Type
 -- ---- the steps: an index page is moved out, or the batch that a data page begins, and an entry has its turn
 
 abbrev pub moving_index : (block p : ℕ) → Step (Unit {0})
-moving_index block p = record { needs = λ g was. CanMoveIndex g was block p; cut = λ g was image. TurnCut g block 1 was image; done = λ g was now ok. TurnDone g block p was now }
+moving_index block p =
+    record { needs = λ g was. CanMoveIndex g was block p; cut = λ g was image. TurnCut g block 1 was image; done = λ g was now ok. TurnDone g block p was now }
 
 abbrev pub moving_batch : (block most p : ℕ) → Step (Unit {0})
-moving_batch block most p = record { needs = λ g was. CanMoveBatch g was block p; cut = λ g was image. TurnCut g block most was image; done = λ g was now ok. TurnDone g block p was now }
+moving_batch block most p = record {
+  needs = λ g was. CanMoveBatch g was block p;
+  cut = λ g was image. TurnCut g block most was image;
+  done = λ g was now ok. TurnDone g block p was now;
+}
 
 abbrev pub turning_entry : (block most p : ℕ) → Step (Unit {0})
-turning_entry block most p = record { needs = λ g was. CanEmpty g was block; cut = λ g was image. TurnCut g block most was image; done = λ g was now ok. TurnDone g block p was now }
+turning_entry block most p =
+    record { needs = λ g was. CanEmpty g was block; cut = λ g was image. TurnCut g block most was image; done = λ g was now ok. TurnDone g block p was now }
 
 -- No page of the block below p is live any more. The image still stands between two moves of each cleaning, the pages that are left
 -- in the block find places, tails that were ready are so still, and erase counts stay.
@@ -67,4 +73,8 @@ pub record Emptied (g : Geometry) (block p : ℕ) (was now : List ℕ) : Type 0 
 
 -- all entries of a block have their turns
 abbrev pub emptying : (block most : ℕ) → Step (Unit {0})
-emptying block most = record { needs = λ g was. CanEmpty g was block; cut = λ g was image. TurnCut g block most was image; done = λ g was now ok. Emptied g block (page_count g) was now }
+emptying block most = record {
+  needs = λ g was. CanEmpty g was block;
+  cut = λ g was image. TurnCut g block most was image;
+  done = λ g was now ok. Emptied g block (page_count g) was now;
+}

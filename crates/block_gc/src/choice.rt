@@ -130,7 +130,9 @@ fn with_block<N: Nor>(
     ensures looks { OnlyLooks v.old v.new }
     ensures quick { IsByRows v.old v.new result }
     ensures below { IfOk result (λ found. AreBelow v.old.geometry.blocks found) }
-    ensures told { N.tells v.old.nor.now → IsTidy v.old.geometry (N.bytes v.old.nor.now) → AreTotals v.old.geometry (N.bytes v.old.nor.now) all.now → next ≡ the_next_count v.old.geometry (N.bytes v.old.nor.now) → IfOk result (λ found. found ≡ bests_with v.old.geometry (N.bytes v.old.nor.now) bests.now block) }
+    ensures told { N.tells v.old.nor.now → IsTidy v.old.geometry (N.bytes v.old.nor.now) → AreTotals v.old.geometry (N.bytes v.old.nor.now) all.now →
+        next ≡ the_next_count v.old.geometry (N.bytes v.old.nor.now) →
+        IfOk result (λ found. found ≡ bests_with v.old.geometry (N.bytes v.old.nor.now) bests.now block) }
 {
     let g = v.geometry;
     let c = counts(v, block)?;
@@ -144,7 +146,8 @@ pub(crate) fn all_bests<N: Nor>(v: &mut View<'_, N>, all: &Room, next: u16) -> R
     ensures looks { OnlyLooks v.old v.new }
     ensures quick { IsByRows v.old v.new result }
     ensures below { IfOk result (λ bests. AreBelow v.old.geometry.blocks bests) }
-    ensures told { N.tells v.old.nor.now → IsTidy v.old.geometry (N.bytes v.old.nor.now) → AreTotals v.old.geometry (N.bytes v.old.nor.now) all.now → next ≡ the_next_count v.old.geometry (N.bytes v.old.nor.now) → IfOk result (λ bests. AreBests v.old.geometry (N.bytes v.old.nor.now) bests) }
+    ensures told { N.tells v.old.nor.now → IsTidy v.old.geometry (N.bytes v.old.nor.now) → AreTotals v.old.geometry (N.bytes v.old.nor.now) all.now →
+        next ≡ the_next_count v.old.geometry (N.bytes v.old.nor.now) → IfOk result (λ bests. AreBests v.old.geometry (N.bytes v.old.nor.now) bests) }
 {
     let mut bests = Bests {
         worth: false,

@@ -25,7 +25,8 @@ fn longest_batch(c: &BlockCounts) -> u32
 pub fn clean<N: Nor>(v: &mut View<'_, N>, block: u16) -> Result<(), StepErr>
     requires { block < v.old.geometry.blocks }
     ensures step { Stepped stopped v.old v.new result (cleaning_block block) }
-    ensures few { N.tells v.old.nor.now → CanCleanBlock v.old.geometry (N.bytes v.old.nor.now) block → OnOk result (N.device_writes v.new.nor.now ≤ N.device_writes v.old.nor.now + 6 * moved_in v.old.geometry (N.bytes v.old.nor.now) block + v.old.geometry.block / v.old.geometry.phys + 2) }
+    ensures few { N.tells v.old.nor.now → CanCleanBlock v.old.geometry (N.bytes v.old.nor.now) block → OnOk result (N.device_writes v.new.nor.now
+        ≤ N.device_writes v.old.nor.now + 6 * moved_in v.old.geometry (N.bytes v.old.nor.now) block + v.old.geometry.block / v.old.geometry.phys + 2) }
 {
     let Ok(c) = counts(v, block) else {
         return Err(StepErr::DeviceFault);

@@ -76,7 +76,9 @@ fn empty_entry<N: Nor>(v: &mut View<'_, N>, page: u16, block: u16, most: u32) ->
     requires at { the_block_of v.old.geometry page ≡ block }
     requires most { 1 ≤ most }
     ensures step { Stepped stopped v.old v.new result (turning_entry block most page) }
-    ensures few { N.tells v.old.nor.now → CanEmpty v.old.geometry (N.bytes v.old.nor.now) block → NoneBefore v.old.geometry (N.bytes v.old.nor.now) block page → OnOk result (SixEach v.old.geometry block most (N.bytes v.old.nor.now) (N.bytes v.new.nor.now) (N.device_writes v.old.nor.now) (N.device_writes v.new.nor.now)) }
+    ensures few { N.tells v.old.nor.now → CanEmpty v.old.geometry (N.bytes v.old.nor.now) block → NoneBefore v.old.geometry (N.bytes v.old.nor.now) block page →
+        OnOk result
+        (SixEach v.old.geometry block most (N.bytes v.old.nor.now) (N.bytes v.new.nor.now) (N.device_writes v.old.nor.now) (N.device_writes v.new.nor.now)) }
 {
     match live_kind(v, page) {
         Err(Failed) => Err(StepErr::DeviceFault),
@@ -91,7 +93,8 @@ pub(crate) fn empty_block<N: Nor>(v: &mut View<'_, N>, block: u16, most: u32) ->
     requires block { block < v.old.geometry.blocks }
     requires most { 1 ≤ most }
     ensures step { Stepped stopped v.old v.new result (emptying block most) }
-    ensures few { N.tells v.old.nor.now → CanEmpty v.old.geometry (N.bytes v.old.nor.now) block → OnOk result (SixEach v.old.geometry block most (N.bytes v.old.nor.now) (N.bytes v.new.nor.now) (N.device_writes v.old.nor.now) (N.device_writes v.new.nor.now)) }
+    ensures few { N.tells v.old.nor.now → CanEmpty v.old.geometry (N.bytes v.old.nor.now) block → OnOk result
+        (SixEach v.old.geometry block most (N.bytes v.old.nor.now) (N.bytes v.new.nor.now) (N.device_writes v.old.nor.now) (N.device_writes v.new.nor.now)) }
 {
     let g = v.geometry;
     for i in 0..g.entries() {

@@ -9,5 +9,6 @@ ghost use Rattle.block_gc.specs.Totals.{score_by};
 
 /// By the counts of a block of an image and by the image's next erase count, that is the score of the block.
 pub fn scores_are_told()
-    ensures { (g : Geometry) (image : List ℕ) (block next : ℕ) (c : BlockCounts) → AreCounts g image block c → next ≡ next_count g image → score_by c next ≡ the_score g image block }
+    ensures { (g : Geometry) (image : List ℕ) (block next : ℕ) (c : BlockCounts) → AreCounts g image block c → next ≡ next_count g image →
+        score_by c next ≡ the_score g image block }
 {}

@@ -16,7 +16,8 @@ fn put_copy<N: Nor>(v: &mut View<'_, N>, page: u16, to: u16, tag: Tag) -> Result
     requires page { IsEntryPage v.old.geometry page }
     requires to { IsEntryPage v.old.geometry to }
     requires id { (1 ≤ tag.id) × (tag.id ≤ 0x7FFE) }
-    requires built { N.tells v.old.nor.now → CanMove v.old.geometry (N.bytes v.old.nor.now) page to → IsBuilt v.old.geometry (N.bytes v.old.nor.now) page tag v.old.work.now }
+    requires built { N.tells v.old.nor.now → CanMove v.old.geometry (N.bytes v.old.nor.now) page to →
+        IsBuilt v.old.geometry (N.bytes v.old.nor.now) page tag v.old.work.now }
     ensures step { Stepped failed v.old v.new result (moving page to) }
     ensures few { N.device_writes v.new.nor.now ≤ N.device_writes v.old.nor.now + 6 }
 {

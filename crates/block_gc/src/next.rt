@@ -32,7 +32,8 @@ fn take_survey<N: Nor>(v: &mut View<'_, N>) -> Result<Survey, Failed>
     ensures looks { OnlyLooks v.old v.new }
     ensures quick { IsByRows v.old v.new result }
     ensures below { IfOk result (λ found. AreBelow v.old.geometry.blocks found.bests) }
-    ensures told { N.tells v.old.nor.now → IsTidy v.old.geometry (N.bytes v.old.nor.now) → IfOk result (λ found. IsSurvey v.old.geometry (N.bytes v.old.nor.now) found) }
+    ensures told { N.tells v.old.nor.now → IsTidy v.old.geometry (N.bytes v.old.nor.now) →
+        IfOk result (λ found. IsSurvey v.old.geometry (N.bytes v.old.nor.now) found) }
 {
     let all = totals(v)?;
     let next = next_count(v)?;
@@ -64,7 +65,8 @@ pub fn choose<N: Nor>(v: &mut View<'_, N>) -> Result<Option<u16>, Failed>
     ensures looks { OnlyLooks v.old v.new }
     ensures quick { IsByRows v.old v.new result }
     ensures below { IfOk result (λ found. IfSome found (λ block. block < v.old.geometry.blocks)) }
-    ensures told { N.tells v.old.nor.now → IsTidy v.old.geometry (N.bytes v.old.nor.now) → IfOk result (λ found. found ≡ chosen_block v.old.geometry (N.bytes v.old.nor.now)) }
+    ensures told { N.tells v.old.nor.now → IsTidy v.old.geometry (N.bytes v.old.nor.now) →
+        IfOk result (λ found. found ≡ chosen_block v.old.geometry (N.bytes v.old.nor.now)) }
 {
     Ok(pick(&take_survey(v)?))
 }
@@ -82,7 +84,8 @@ pub fn is_stuck<N: Nor>(v: &mut View<'_, N>) -> Result<bool, Failed>
     ensures cause { OnErr result (Rose (N.faults v.old.nor.now) (N.faults v.new.nor.now)) }
     ensures looks { OnlyLooks v.old v.new }
     ensures quick { IsByRows v.old v.new result }
-    ensures told { N.tells v.old.nor.now → IsTidy v.old.geometry (N.bytes v.old.nor.now) → IfOk result (λ stuck. stuck ≡ the_stuck v.old.geometry (N.bytes v.old.nor.now)) }
+    ensures told { N.tells v.old.nor.now → IsTidy v.old.geometry (N.bytes v.old.nor.now) →
+        IfOk result (λ stuck. stuck ≡ the_stuck v.old.geometry (N.bytes v.old.nor.now)) }
 {
     let found = take_survey(v)?;
     Ok(is_stuck_by(&found))
@@ -104,7 +107,8 @@ pub fn is_ready<N: Nor>(v: &mut View<'_, N>, index: u32, data_pages: u32) -> Res
     ensures cause { OnErr result (Rose (N.faults v.old.nor.now) (N.faults v.new.nor.now)) }
     ensures looks { OnlyLooks v.old v.new }
     ensures quick { IsByRows v.old v.new result }
-    ensures told { N.tells v.old.nor.now → IsTidy v.old.geometry (N.bytes v.old.nor.now) → IfOk result (λ ready. IfReady v.old.geometry (N.bytes v.old.nor.now) index data_pages ready) }
+    ensures told { N.tells v.old.nor.now → IsTidy v.old.geometry (N.bytes v.old.nor.now) →
+        IfOk result (λ ready. IfReady v.old.geometry (N.bytes v.old.nor.now) index data_pages ready) }
 {
     let g = v.geometry;
     let all = totals(v)?;

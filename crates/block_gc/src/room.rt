@@ -3,12 +3,13 @@ ghost use Rattle.std.specs.Prelude.{◌≡◌, ◌≢◌, ◌<◌, ◌≤◌, On
 ghost use Rattle.nor_core.specs.Count.{Rose};
 ghost use Rattle.nor_core.specs.Device.{Changes, OnlyReads};
 ghost use Rattle.image_model.specs.Tidy.{IsTidy};
-ghost use Rattle.trim_laws.specs.Trim.{Trims};
+ghost use Rattle.trim_laws.specs.Upkeep.{Upkeep};
 ghost use Rattle.flash_view.specs.Same.{IsSameView, OnlyLooks};
 ghost use Rattle.room_laws.specs.Stopping.{CanClean, HasRoomFor};
 ghost use Rattle.room_laws.specs.Mends.{CanMend};
 ghost use Rattle.flash_view.specs.Steps.{Stepped, stopped};
-ghost use Rattle.block_gc.specs.RoomMade.{IsFaultOrTight, is_apart_in, IsReady, IsMet, IfMet, CollectCut, MadeRoom, IsTight, IsCompact, IsStuck, cleaning_chosen, turning_to, collecting, packing};
+ghost use Rattle.block_gc.specs.RoomMade.{IsFaultOrTight, UnlessFailed, is_apart_in, IsReady, IsMet, IfMet, CollectCut, MadeRoom, IsTight, IsCompact, IsStuck};
+ghost use Rattle.block_gc.specs.RoomMade.{cleaning_chosen, turning_to, collecting, packing};
 
 use crate::cleaning::clean;
 use crate::next::{choose, is_ready, is_stuck};
@@ -37,7 +38,8 @@ enum Goal {
 fn is_met<N: Nor>(v: &mut View<'_, N>, goal: Goal) -> Result<bool, Failed>
     ensures cause { OnErr result (Rose (N.faults v.old.nor.now) (N.faults v.new.nor.now)) }
     ensures looks { OnlyLooks v.old v.new }
-    ensures told { N.tells v.old.nor.now → IsTidy v.old.geometry (N.bytes v.old.nor.now) → IfOk result (λ met. IfMet v.old.geometry (N.bytes v.old.nor.now) goal met) }
+    ensures told { N.tells v.old.nor.now → IsTidy v.old.geometry (N.bytes v.old.nor.now) →
+        IfOk result (λ met. IfMet v.old.geometry (N.bytes v.old.nor.now) goal met) }
 {
     match goal {
         Goal::Pages(index, data_pages) => is_ready(v, index, data_pages),
@@ -62,7 +64,8 @@ fn clean_chosen<N: Nor>(v: &mut View<'_, N>) -> Result<bool, StepErr>
 // A turn of collection: a block more was cleaned, or whether the goal is met where collection stops.
 fn collect_turn<N: Nor>(v: &mut View<'_, N>, goal: Goal) -> Result<Option<bool>, StepErr>
     ensures step { Stepped stopped v.old v.new result (turning_to goal) }
-    ensures idle { N.tells v.old.nor.now → IsTidy v.old.geometry (N.bytes v.old.nor.now) → IsMet v.old.geometry (N.bytes v.old.nor.now) goal → OnlyReads N.NorState v.old.nor.now v.new.nor.now }
+    ensures idle { N.tells v.old.nor.now → IsTidy v.old.geometry (N.bytes v.old.nor.now) → IsMet v.old.geometry (N.bytes v.old.nor.now) goal →
+        OnlyReads N.NorState v.old.nor.now v.new.nor.now }
 {
     match is_met(v, goal) {
         Err(Failed) => Err(StepErr::DeviceFault),
@@ -78,7 +81,8 @@ fn collect_turn<N: Nor>(v: &mut View<'_, N>, goal: Goal) -> Result<Option<bool>,
 // Cleans the chosen block, one after the other, until the goal is met or no block is chosen: whether it is met.
 fn collect<N: Nor>(v: &mut View<'_, N>, goal: Goal) -> Result<bool, StepErr>
     ensures step { Stepped stopped v.old v.new result (collecting goal) }
-    ensures idle { N.tells v.old.nor.now → IsTidy v.old.geometry (N.bytes v.old.nor.now) → IsMet v.old.geometry (N.bytes v.old.nor.now) goal → OnlyReads N.NorState v.old.nor.now v.new.nor.now }
+    ensures idle { N.tells v.old.nor.now → IsTidy v.old.geometry (N.bytes v.old.nor.now) → IsMet v.old.geometry (N.bytes v.old.nor.now) goal →
+        OnlyReads N.NorState v.old.nor.now v.new.nor.now }
 {
     for _turn in 0..u64::MAX {
         if let Some(met) = collect_turn(v, goal)? {
@@ -99,12 +103,18 @@ pub fn make_room<N: Nor>(v: &mut View<'_, N>, index: u32, data_pages: u32) -> Re
     ensures wrote { v.old.wrote ≡ true → v.new.wrote ≡ true }
     ensures untouched { v.old.wrote ≡ false → v.new.wrote ≡ false → OnlyReads N.NorState v.old.nor.now v.new.nor.now }
     ensures changes { Changes N.NorState v.old.nor.now v.new.nor.now (λ was image. IsTidy v.old.geometry was → CollectCut v.old.geometry was image) }
-    ensures trims { Changes N.NorState v.old.nor.now v.new.nor.now (λ was image. IsTidy v.old.geometry was → Trims v.old.geometry was image) }
-    ensures idle { N.tells v.old.nor.now → IsTidy v.old.geometry (N.bytes v.old.nor.now) → IsReady v.old.geometry (N.bytes v.old.nor.now) index data_pages → OnlyReads N.NorState v.old.nor.now v.new.nor.now }
-    ensures done { N.tells v.old.nor.now → IsTidy v.old.geometry (N.bytes v.old.nor.now) → OnOk result (MadeRoom v.old.geometry index data_pages (N.bytes v.old.nor.now) (N.bytes v.new.nor.now)) }
-    ensures tight { N.tells v.old.nor.now → IsTidy v.old.geometry (N.bytes v.old.nor.now) → IsErrOf result RoomErr.Tight → IsTight v.old.geometry index data_pages (N.bytes v.old.nor.now) (N.bytes v.new.nor.now) }
-    ensures never_tight { N.tells v.old.nor.now → CanClean v.old.geometry (N.bytes v.old.nor.now) → HasRoomFor v.old.geometry (N.bytes v.old.nor.now) index data_pages → IfErr result (λ why. why ≢ RoomErr.Tight) }
-    ensures mended { N.tells v.old.nor.now → CanMend v.old.geometry (N.bytes v.old.nor.now) → index ≡ 0 → data_pages ≡ 0 → IfErr result (λ why. why ≢ RoomErr.Tight) }
+    ensures upkeep { Changes N.NorState v.old.nor.now v.new.nor.now (λ was image. IsTidy v.old.geometry was → Upkeep v.old.geometry was image) }
+    ensures stands { N.tells v.old.nor.now → IsTidy v.old.geometry (N.bytes v.old.nor.now) → v.old.counted ≡ true → UnlessFailed result (v.new.counted ≡ true) }
+    ensures idle { N.tells v.old.nor.now → IsTidy v.old.geometry (N.bytes v.old.nor.now) → IsReady v.old.geometry (N.bytes v.old.nor.now) index data_pages →
+        OnlyReads N.NorState v.old.nor.now v.new.nor.now }
+    ensures done { N.tells v.old.nor.now → IsTidy v.old.geometry (N.bytes v.old.nor.now) →
+        OnOk result (MadeRoom v.old.geometry index data_pages (N.bytes v.old.nor.now) (N.bytes v.new.nor.now)) }
+    ensures tight { N.tells v.old.nor.now → IsTidy v.old.geometry (N.bytes v.old.nor.now) → IsErrOf result RoomErr.Tight →
+        IsTight v.old.geometry index data_pages (N.bytes v.old.nor.now) (N.bytes v.new.nor.now) }
+    ensures never_tight { N.tells v.old.nor.now → CanClean v.old.geometry (N.bytes v.old.nor.now) →
+        HasRoomFor v.old.geometry (N.bytes v.old.nor.now) index data_pages → IfErr result (λ why. why ≢ RoomErr.Tight) }
+    ensures mended { N.tells v.old.nor.now → CanMend v.old.geometry (N.bytes v.old.nor.now) → index ≡ 0 → data_pages ≡ 0 →
+        IfErr result (λ why. why ≢ RoomErr.Tight) }
     ensures undamaged { N.tells v.old.nor.now → IsTidy v.old.geometry (N.bytes v.old.nor.now) → IfErr result (λ why. IsFaultOrTight why) }
     ensures differs { IfErr result is_apart_in }
 {
@@ -136,9 +146,12 @@ pub fn compact<N: Nor>(v: &mut View<'_, N>) -> Result<(), RoomErr>
     ensures wrote { v.old.wrote ≡ true → v.new.wrote ≡ true }
     ensures untouched { v.old.wrote ≡ false → v.new.wrote ≡ false → OnlyReads N.NorState v.old.nor.now v.new.nor.now }
     ensures changes { Changes N.NorState v.old.nor.now v.new.nor.now (λ was image. IsTidy v.old.geometry was → CollectCut v.old.geometry was image) }
-    ensures trims { Changes N.NorState v.old.nor.now v.new.nor.now (λ was image. IsTidy v.old.geometry was → Trims v.old.geometry was image) }
-    ensures done { N.tells v.old.nor.now → IsTidy v.old.geometry (N.bytes v.old.nor.now) → OnOk result (IsCompact v.old.geometry (N.bytes v.old.nor.now) (N.bytes v.new.nor.now)) }
-    ensures tight { N.tells v.old.nor.now → IsTidy v.old.geometry (N.bytes v.old.nor.now) → IsErrOf result RoomErr.Tight → IsStuck v.old.geometry (N.bytes v.old.nor.now) (N.bytes v.new.nor.now) }
+    ensures upkeep { Changes N.NorState v.old.nor.now v.new.nor.now (λ was image. IsTidy v.old.geometry was → Upkeep v.old.geometry was image) }
+    ensures stands { N.tells v.old.nor.now → IsTidy v.old.geometry (N.bytes v.old.nor.now) → v.old.counted ≡ true → UnlessFailed result (v.new.counted ≡ true) }
+    ensures done { N.tells v.old.nor.now → IsTidy v.old.geometry (N.bytes v.old.nor.now) →
+        OnOk result (IsCompact v.old.geometry (N.bytes v.old.nor.now) (N.bytes v.new.nor.now)) }
+    ensures tight { N.tells v.old.nor.now → IsTidy v.old.geometry (N.bytes v.old.nor.now) → IsErrOf result RoomErr.Tight →
+        IsStuck v.old.geometry (N.bytes v.old.nor.now) (N.bytes v.new.nor.now) }
     ensures never_tight { N.tells v.old.nor.now → CanClean v.old.geometry (N.bytes v.old.nor.now) → IfErr result (λ why. why ≢ RoomErr.Tight) }
     ensures undamaged { N.tells v.old.nor.now → IsTidy v.old.geometry (N.bytes v.old.nor.now) → IfErr result (λ why. IsFaultOrTight why) }
     ensures differs { IfErr result is_apart_in }

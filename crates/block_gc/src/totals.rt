@@ -64,7 +64,8 @@ pub(crate) fn totals<N: Nor>(v: &mut View<'_, N>) -> Result<Room, Failed>
     ensures cause { OnErr result (Rose (N.faults v.old.nor.now) (N.faults v.new.nor.now)) }
     ensures looks { OnlyLooks v.old v.new }
     ensures quick { IsByRows v.old v.new result }
-    ensures told { N.tells v.old.nor.now → IsTidy v.old.geometry (N.bytes v.old.nor.now) → IfOk result (λ all. AreTotals v.old.geometry (N.bytes v.old.nor.now) all) }
+    ensures told { N.tells v.old.nor.now → IsTidy v.old.geometry (N.bytes v.old.nor.now) →
+        IfOk result (λ all. AreTotals v.old.geometry (N.bytes v.old.nor.now) all) }
 {
     if let Some(sums) = sums(v) {
         return Ok(Room {

@@ -20,7 +20,8 @@ pub record Stands {D : Type 0} (nor : NorOf D) (g : Geometry) (d : D) (memory : 
 -- What a cut in a call may leave of the image of a volume at a moment: one that may follow it, with a table from the settled one to the
 -- last step of the call.
 abbrev pub Publishes : Geometry → Memory → Moment → Ask → List ℕ → List ℕ → Type 0
-Publishes g memory m ask was image = IsAt g was memory m → IsSafe g was image × IsAmong (table_of g image) (from_settled m (steps g (has_spare g was) m.state ask))
+Publishes g memory m ask was image = IsAt g was memory m →
+    IsSafe g was image × IsAmong (table_of g image) (from_settled m (steps g (has_spare g was) m.state ask))
 
 -- A call was answered as the flat table is, and the volume stands at the moment after it. `memory` is that after the call.
 pub record Answers {D : Type 0} (nor : NorOf D) (g : Geometry) (old new : D) (memory : Memory) (m : Moment) (ask : Ask) (reply : Answer) : Type 0 where

@@ -9,7 +9,8 @@ use Rattle.call_model.specs.Memory.{Memory, IsAt}
 
 -- Telling an offset leaves the window.
 abbrev pub LeavesWindow : Geometry → Type 0
-LeavesWindow g = (spare : Bool) (m : Moment) (ask : Ask) → leaves_window ask ≡ true → after g spare m ask ≡ record m { state = (answer g spare m.state ask).next }
+LeavesWindow g = (spare : Bool) (m : Moment) (ask : Ask) → leaves_window ask ≡ true →
+    after g spare m ask ≡ record m { state = (answer g spare m.state ask).next }
 
 -- so it leaves the whole moment
 abbrev pub TellStays : Geometry → Type 0
@@ -21,25 +22,31 @@ RefusedSettles g = (spare : Bool) (m : Moment) (ask : Ask) → leaves_window ask
     after g spare m ask ≡ settled_at (answer g spare m.state ask).next
 
 abbrev pub OtherSettles : Geometry → Type 0
-OtherSettles g = (spare : Bool) (m : Moment) (ask : Ask) → leaves_window ask ≡ false → continues g m.window (incoming_of m.state ask) ≡ false → may_wait g (incoming_of m.state ask) ≡ false →
+OtherSettles g = (spare : Bool) (m : Moment) (ask : Ask) → leaves_window ask ≡ false → continues g m.window (incoming_of m.state ask) ≡ false →
+    may_wait g (incoming_of m.state ask) ≡ false →
     after g spare m ask ≡ settled_at (answer g spare m.state ask).next
 
 -- A write that isn't refused goes on with it, or begins another one.
 abbrev pub WriteGoesOn : Geometry → Type 0
-WriteGoesOn g = (spare : Bool) (m : Moment) (ask : Ask) → leaves_window ask ≡ false → is_refusal (answer g spare m.state ask).answer ≡ false → continues g m.window (incoming_of m.state ask) ≡ true →
+WriteGoesOn g = (spare : Bool) (m : Moment) (ask : Ask) → leaves_window ask ≡ false → is_refusal (answer g spare m.state ask).answer ≡ false →
+    continues g m.window (incoming_of m.state ask) ≡ true →
     after g spare m ask ≡ goes_on m (answer g spare m.state ask).next (steps g spare m.state ask) (incoming_of m.state ask)
 
 abbrev pub WriteBegins : Geometry → Type 0
-WriteBegins g = (spare : Bool) (m : Moment) (ask : Ask) → leaves_window ask ≡ false → is_refusal (answer g spare m.state ask).answer ≡ false → continues g m.window (incoming_of m.state ask) ≡ false →
-    may_wait g (incoming_of m.state ask) ≡ true → after g spare m ask ≡ begins m (answer g spare m.state ask).next (steps g spare m.state ask) (incoming_of m.state ask)
+WriteBegins g = (spare : Bool) (m : Moment) (ask : Ask) → leaves_window ask ≡ false → is_refusal (answer g spare m.state ask).answer ≡ false →
+    continues g m.window (incoming_of m.state ask) ≡ false →
+    may_wait g (incoming_of m.state ask) ≡ true →
+    after g spare m ask ≡ begins m (answer g spare m.state ask).next (steps g spare m.state ask) (incoming_of m.state ask)
 
 -- A call that neither leaves the window nor goes on with it leaves what it would where all was settled before.
 abbrev pub AfterSettled : Geometry → Type 0
-AfterSettled g = (spare : Bool) (m : Moment) (ask : Ask) → leaves_window ask ≡ false → continues g m.window (incoming_of m.state ask) ≡ false → after g spare (settled_at m.state) ask ≡ after g spare m ask
+AfterSettled g = (spare : Bool) (m : Moment) (ask : Ask) → leaves_window ask ≡ false → continues g m.window (incoming_of m.state ask) ≡ false →
+    after g spare (settled_at m.state) ask ≡ after g spare m ask
 
 -- so does one that is refused
 abbrev pub AfterRefused : Geometry → Type 0
-AfterRefused g = (spare : Bool) (m : Moment) (ask : Ask) → leaves_window ask ≡ false → is_refusal (answer g spare m.state ask).answer ≡ true → after g spare (settled_at m.state) ask ≡ after g spare m ask
+AfterRefused g = (spare : Bool) (m : Moment) (ask : Ask) → leaves_window ask ≡ false → is_refusal (answer g spare m.state ask).answer ≡ true →
+    after g spare (settled_at m.state) ask ≡ after g spare m ask
 
 -- The table of a state is the settled one of its moment, or one that waits.
 abbrev pub SettledAmong : Geometry → Type 0

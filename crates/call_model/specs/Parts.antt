@@ -24,11 +24,13 @@ AmongSteps g = (at : ℕ) (bytes : List ℕ) (f : File) (files t : List File) �
 
 -- and what has them is a step
 abbrev pub StepsAmong : Geometry → Type 0
-StepsAmong g = (at : ℕ) (bytes : List ℕ) (f : File) (files : List File) (e : ℕ) → IsPartEnd (body g) (length f.bytes) at (length bytes) e → IsAmong (written_up_to at bytes f files e) (file_steps g at bytes f files)
+StepsAmong g = (at : ℕ) (bytes : List ℕ) (f : File) (files : List File) (e : ℕ) → IsPartEnd (body g) (length f.bytes) at (length bytes) e →
+    IsAmong (written_up_to at bytes f files e) (file_steps g at bytes f files)
 
 -- The last step of a write that has a byte is the table after it.
 abbrev pub WholeAmong : Geometry → Type 0
-WholeAmong g = (at : ℕ) (bytes : List ℕ) (f : File) (files : List File) → 0 < length bytes → IsAmong (put_file (written at bytes f) files) (file_steps g at bytes f files)
+WholeAmong g = (at : ℕ) (bytes : List ℕ) (f : File) (files : List File) → 0 < length bytes →
+    IsAmong (put_file (written at bytes f) files) (file_steps g at bytes f files)
 
 -- A file that is written, and written on where that ends, is written at once.
 abbrev pub WrittenOn : Type 0

@@ -43,42 +43,52 @@ WriteIsDone g = (spare : Bool) (s : State) (fd : ℕ) (bytes : List ℕ) (d : Op
 
 -- Each write of a byte that isn't refused is one.
 abbrev pub DoneIsWrite : Geometry → Type 0
-DoneIsWrite g = (spare : Bool) (s : State) (fd : ℕ) (bytes : List ℕ) → 0 < length bytes → is_refusal (answer g spare s (Writes fd bytes)).answer ≡ false → (d : Open) × (f : File) × IsWrite g spare s fd bytes d f
+DoneIsWrite g = (spare : Bool) (s : State) (fd : ℕ) (bytes : List ℕ) → 0 < length bytes → is_refusal (answer g spare s (Writes fd bytes)).answer ≡ false →
+    (d : Open) × (f : File) × IsWrite g spare s fd bytes d f
 
 -- It goes on with what waits exactly where the window accepts it.
 abbrev pub ContinuesAccepted : Geometry → Type 0
-ContinuesAccepted g = (image : List ℕ) (memory : Memory) (m : Moment) (fd : ℕ) (bytes : List ℕ) (d : Open) (f : File) → IsAt g image memory m → open_at m.state.slots fd ≡ Some d → file_of d.id m.state.table ≡ Some f →
+ContinuesAccepted g = (image : List ℕ) (memory : Memory) (m : Moment) (fd : ℕ) (bytes : List ℕ) (d : Open) (f : File) → IsAt g image memory m →
+    open_at m.state.slots fd ≡ Some d → file_of d.id m.state.table ≡ Some f →
     continues g m.window (incoming_of m.state (Writes fd bytes)) ≡ accepted (body g) memory.run fd (write_place d f) (length bytes)
 
 -- A run waits after a write that begins a window: its bytes are those of the write.
 abbrev pub WaitBegins : Geometry → Type 0
-WaitBegins g = (spare : Bool) (m : Moment) (fd : ℕ) (bytes : List ℕ) (d : Open) (f : File) → IsWrite g spare m.state fd bytes d f → OpensFiles m.state → is_direct d.flags ≡ false →
+WaitBegins g = (spare : Bool) (m : Moment) (fd : ℕ) (bytes : List ℕ) (d : Open) (f : File) → IsWrite g spare m.state fd bytes d f → OpensFiles m.state →
+    is_direct d.flags ≡ false →
     write_place d f + length bytes ≤ page_end g (write_place d f) → continues g m.window (incoming_of m.state (Writes fd bytes)) ≡ false →
     Waits g (after g spare m (Writes fd bytes)) (record { fd = fd; id = d.id; start = write_place d f; bytes = bytes })
 
 -- So does a longer one after a write that goes on with it.
 abbrev pub WaitGoesOn : Geometry → Type 0
-WaitGoesOn g = (spare : Bool) (m : Moment) (r : Run) (fd : ℕ) (bytes : List ℕ) (d : Open) (f : File) → Waits g m r → IsWrite g spare m.state fd bytes d f → continues g m.window (incoming_of m.state (Writes fd bytes)) ≡ true →
+WaitGoesOn g = (spare : Bool) (m : Moment) (r : Run) (fd : ℕ) (bytes : List ℕ) (d : Open) (f : File) → Waits g m r → IsWrite g spare m.state fd bytes d f →
+    continues g m.window (incoming_of m.state (Writes fd bytes)) ≡ true →
     Waits g (after g spare m (Writes fd bytes)) (with_more bytes r)
 
 -- The moment after a write that begins a window, and after one that goes on with it.
 abbrev pub BegunMoment : Geometry → Type 0
-BegunMoment g = (spare : Bool) (m : Moment) (fd : ℕ) (bytes : List ℕ) (d : Open) (f : File) → IsWrite g spare m.state fd bytes d f → is_direct d.flags ≡ false → write_place d f + length bytes ≤ page_end g (write_place d f) →
+BegunMoment g = (spare : Bool) (m : Moment) (fd : ℕ) (bytes : List ℕ) (d : Open) (f : File) → IsWrite g spare m.state fd bytes d f → is_direct d.flags ≡ false →
+    write_place d f + length bytes ≤ page_end g (write_place d f) →
     continues g m.window (incoming_of m.state (Writes fd bytes)) ≡ false →
-    after g spare m (Writes fd bytes) ≡ begins m (write_into fd d f bytes m.state) (file_steps g (write_place d f) bytes f m.state.table) (Some (brought fd bytes d f))
+    after g spare m (Writes fd bytes)
+    ≡ begins m (write_into fd d f bytes m.state) (file_steps g (write_place d f) bytes f m.state.table) (Some (brought fd bytes d f))
 
 abbrev pub OnMoment : Geometry → Type 0
-OnMoment g = (spare : Bool) (m : Moment) (fd : ℕ) (bytes : List ℕ) (d : Open) (f : File) → IsWrite g spare m.state fd bytes d f → continues g m.window (incoming_of m.state (Writes fd bytes)) ≡ true →
-    after g spare m (Writes fd bytes) ≡ goes_on m (write_into fd d f bytes m.state) (file_steps g (write_place d f) bytes f m.state.table) (Some (brought fd bytes d f))
+OnMoment g = (spare : Bool) (m : Moment) (fd : ℕ) (bytes : List ℕ) (d : Open) (f : File) → IsWrite g spare m.state fd bytes d f →
+    continues g m.window (incoming_of m.state (Writes fd bytes)) ≡ true →
+    after g spare m (Writes fd bytes)
+    ≡ goes_on m (write_into fd d f bytes m.state) (file_steps g (write_place d f) bytes f m.state.table) (Some (brought fd bytes d f))
 
 -- The moment after a write that may not wait: it goes on with nothing, and it is direct or goes past a data page.
 abbrev pub DirectMoment : Geometry → Type 0
-DirectMoment g = (spare : Bool) (m : Moment) (fd : ℕ) (bytes : List ℕ) (d : Open) (f : File) → IsWrite g spare m.state fd bytes d f → (is_direct d.flags ≡ true) ⊎ (page_end g (write_place d f) < write_place d f + length bytes) →
+DirectMoment g = (spare : Bool) (m : Moment) (fd : ℕ) (bytes : List ℕ) (d : Open) (f : File) → IsWrite g spare m.state fd bytes d f →
+    (is_direct d.flags ≡ true) ⊎ (page_end g (write_place d f) < write_place d f + length bytes) →
     continues g m.window (incoming_of m.state (Writes fd bytes)) ≡ false → after g spare m (Writes fd bytes) ≡ settled_at (write_into fd d f bytes m.state)
 
 -- Where a run's bytes are written into its file, each step is among those that waited.
 abbrev pub WaitSettles : Geometry → Type 0
-WaitSettles g = (m : Moment) (r : Run) (f : File) (t : List File) (more : List (List File)) → Waits g m r → file_of r.id m.settled ≡ Some f → IsAmong t (m.settled ∷ file_steps g r.start r.bytes f m.settled) → IsAmong t (from_settled m more)
+WaitSettles g = (m : Moment) (r : Run) (f : File) (t : List File) (more : List (List File)) → Waits g m r → file_of r.id m.settled ≡ Some f →
+    IsAmong t (m.settled ∷ file_steps g r.start r.bytes f m.settled) → IsAmong t (from_settled m more)
 
 -- and the last one is the table of the state
 abbrev pub WaitEnds : Geometry → Type 0
@@ -86,7 +96,8 @@ WaitEnds g = (m : Moment) (r : Run) (f : File) → Waits g m r → file_of r.id 
 
 -- An image with the table of a state, and nothing that waits, is at the moment where all is settled.
 abbrev pub EndedAt : Geometry → Type 0
-EndedAt g = (image : List ℕ) (s : State) → IsTidy g image → table_of g image ≡ s.table → OpensFiles s → IsAt g image (record { slots = s.slots; run = None }) (settled_at s)
+EndedAt g = (image : List ℕ) (s : State) → IsTidy g image → table_of g image ≡ s.table → OpensFiles s →
+    IsAt g image (record { slots = s.slots; run = None }) (settled_at s)
 
 -- A write of no byte changes nothing, but that it settles what it doesn't go on with.
 pub record EmptyWrite (g : Geometry) (spare : Bool) (m : Moment) (fd : ℕ) : Type 0 where
@@ -96,4 +107,5 @@ pub record EmptyWrite (g : Geometry) (spare : Bool) (m : Moment) (fd : ℕ) : Ty
   pub settles : continues g m.window (incoming_of m.state (Writes fd [])) ≡ false → after g spare m (Writes fd []) ≡ settled_at m.state
 
 abbrev pub EmptyIsDone : Geometry → Type 0
-EmptyIsDone g = (spare : Bool) (m : Moment) (fd : ℕ) (d : Open) (f : File) → open_at m.state.slots fd ≡ Some d → file_of d.id m.state.table ≡ Some f → may_write d.flags ≡ true → EmptyWrite g spare m fd
+EmptyIsDone g = (spare : Bool) (m : Moment) (fd : ℕ) (d : Open) (f : File) → open_at m.state.slots fd ≡ Some d → file_of d.id m.state.table ≡ Some f →
+    may_write d.flags ≡ true → EmptyWrite g spare m fd

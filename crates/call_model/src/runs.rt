@@ -1,5 +1,6 @@
 ghost use Rattle.geometry.specs.declared.geometry.Geometry.{Geometry};
-ghost use Rattle.call_model.specs.Writing.{WriteIsDone, DoneIsWrite, EmptyIsDone, ContinuesAccepted, BegunMoment, OnMoment, DirectMoment, WaitBegins, WaitGoesOn, WaitSettles, WaitEnds, EndedAt};
+ghost use Rattle.call_model.specs.Writing.{WriteIsDone, DoneIsWrite, EmptyIsDone, ContinuesAccepted, BegunMoment, OnMoment, DirectMoment, WaitBegins};
+ghost use Rattle.call_model.specs.Writing.{WaitGoesOn, WaitSettles, WaitEnds, EndedAt};
 
 /// What a write answers where it isn't refused, its steps, and whether it goes on with what waits.
 pub fn writes_are_done()

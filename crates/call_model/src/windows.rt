@@ -1,7 +1,8 @@
 ghost use Rattle.std.specs.Prelude.{ℕ, Bool};
 ghost use Rattle.geometry.specs.declared.geometry.Geometry.{Geometry};
 ghost use Rattle.table_model.specs.Window.{Moment};
-ghost use Rattle.call_model.specs.Moves.{LeavesWindow, TellStays, RefusedSettles, OtherSettles, WriteGoesOn, WriteBegins, AfterSettled, AfterRefused, SettledAmong, FillsAsWrites};
+ghost use Rattle.call_model.specs.Moves.{LeavesWindow, TellStays, RefusedSettles, OtherSettles, WriteGoesOn, WriteBegins, AfterSettled, AfterRefused};
+ghost use Rattle.call_model.specs.Moves.{SettledAmong, FillsAsWrites};
 
 /// What a call does to the bytes that wait.
 pub fn calls_move_windows()

@@ -1,7 +1,9 @@
 -- The grammar of a script: its lines, and the call that each of them spells.
-use Rattle.std.specs.Prelude.{◌≡◌, ◌<◌, slice_index, ℕ, Bool, List, [], ◌∷◌, length, codes, Option, Some, None, Result, Ok, Err, ◌==◌, ◌≤◌, nat_lt, if◌then◌else◌}
+use Rattle.std.specs.Prelude.{◌≡◌, ◌<◌, slice_index, ℕ, Bool, List, [], ◌∷◌, length, codes, Option, Some, None, Result, Ok, Err, ◌==◌, ◌≤◌, nat_lt}
+use Rattle.std.specs.Prelude.{if◌then◌else◌}
 use Rattle.std.specs.Str.{bytes_eq}
-use Rattle.table_model.specs.Ask.{Ask, Creates, Opens, Reads, Writes, Fills, Seeks, Tells, Truncates, Flushes, Closes, Removes, RemovesOpen, Renames, Stats, StatsOpen, NextAbove, Informs, Collects, SetsMeta, SetsMetaOpen, asked}
+use Rattle.table_model.specs.Ask.{Ask, Creates, Opens, Reads, Writes, Fills, Seeks, Tells, Truncates, Flushes, Closes, Removes, RemovesOpen, Renames, Stats}
+use Rattle.table_model.specs.Ask.{StatsOpen, NextAbove, Informs, Collects, SetsMeta, SetsMetaOpen, asked}
 use Rattle.table_model.specs.declared.call.Call.{Call}
 use Rattle.table_model.specs.declared.call.Whence.{Whence}
 use Rattle.table_model.specs.declared.call.Whence.TheVariants.{Set, Cur, End}

@@ -27,7 +27,8 @@ Stuck chip old new = (new.moment ≡ last_count) ⊎ Unfit chip old
 
 -- why a call failed: the count of faults of a chip that it may ask rose, and the row names that chip from now on; or no chip failed, for the cause `Other`
 abbrev pub Blamed : {C : Type 0} → ChipOf C → (ℕ → Type 0) → ChipRow C → ChipRow C → Type 0 → Type 0
-Blamed chip Asked old new Other = ((place : ℕ) × Asked place × ChipRose chip place old.chips.items new.chips.items × (new.fuse ≡ Some place)) ⊎ ((new.fuse ≡ old.fuse) × Other)
+Blamed chip Asked old new Other = ((place : ℕ) × Asked place × ChipRose chip place old.chips.items new.chips.items × (new.fuse ≡ Some place))
+    ⊎ ((new.fuse ≡ old.fuse) × Other)
 
 -- What a call leaves that asks no chips but those of which `Asked` holds, by its answer. `Other` is why it may fail where no chip does.
 pub record Asks {C : Type 0} (chip : ChipOf C) (Asked : ℕ → Type 0) (old new : ChipRow C) (result : Result (Unit {0}) Failed) (Other : Type 0) : Type 0 where

@@ -18,7 +18,8 @@ pub record ChipReads {D : Type 0} (chip : ChipOf D) (old new : D) : Type 0 where
   pub cuts : (t : ℕ) (image : List ℕ) → chip.left_at new t image → chip.left_at old t image
   pub kept : (t : ℕ) (image : List ℕ) → chip.left_at old t image → chip.left_at new t image
 
--- a call at `now`: where bytes are told, they have R after it, and so has what a cut at `now` may leave; at an earlier moment a cut leaves what it might leave before
+-- a call at `now`: where bytes are told, they have R after it, and so has what a cut at `now` may leave; at an earlier moment a cut leaves what it might leave
+-- before
 pub record ChipChanges {D : Type 0} (chip : ChipOf D) (now : ℕ) (old new : D) (R : List ℕ → Type 0) : Type 0 where
   pub size : chip.size new ≡ chip.size old
   pub unit : chip.unit new ≡ chip.unit old

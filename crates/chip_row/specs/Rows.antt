@@ -1,5 +1,6 @@
 -- Chips of one size end to end: what a row is, and what a call on one of its chips leaves.
-use Rattle.std.specs.Prelude.{ℕ, ◌≡◌, ◌≢◌, ◌+◌, ◌*◌, ◌%◌, ◌^◌, ◌<◌, ◌≤◌, max, List, [], ◌∷◌, ◌++◌, length, slice_get, slice_range, Some, OnOk, OnErr, Result, All}
+use Rattle.std.specs.Prelude.{ℕ, ◌≡◌, ◌≢◌, ◌+◌, ◌*◌, ◌%◌, ◌^◌, ◌<◌, ◌≤◌, max, List, [], ◌∷◌, ◌++◌, length, slice_get, slice_range, Some, OnOk, OnErr, Result}
+use Rattle.std.specs.Prelude.{All}
 use Rattle.nor_core.specs.declared.device.Failed.{Failed}
 use Rattle.nor_core.specs.Count.{Rose}
 use Rattle.chip_row.specs.declared.numbers.Numbers.{Numbers}
@@ -53,7 +54,8 @@ pub record OneOther {D : Type 0} (place : ℕ) (old new : List D) (was is : D) :
   pub at_place : length before ≡ place
 
 -- one of them was called at `now`: R holds of what a cut in the call may leave of it, and S of what stands
-pub record OneChanged {D : Type 0} (chip : ChipOf D) (now place : ℕ) (old new : List D) (R : List ℕ → List ℕ → List ℕ → Type 0) (S : List ℕ → List ℕ → Type 0) (result : Result (Unit {0}) Failed) : Type 0 where
+pub record OneChanged {D : Type 0} (chip : ChipOf D) (now place : ℕ) (old new : List D) (R : List ℕ → List ℕ → List ℕ → Type 0) (S : List ℕ → List ℕ → Type 0)
+    (result : Result (Unit {0}) Failed) : Type 0 where
   pub was : D
   pub is : D
   pub other : OneOther place old new was is

@@ -56,7 +56,8 @@ pub trait Chip: ChipState + Drop {
         requires marked { ForSome mark (λ m. m.at + 2 ≤ Self.unit self.old) }
         ensures done { Self.tells self.old → OnOk result (ErasesUnit unit_ix (Self.unit self.old) (Self.bytes self.old) (Self.bytes self.new)) }
         ensures half { Self.tells self.old → OnErr result (HalfErasesUnit unit_ix (Self.unit self.old) mark (Self.bytes self.old) (Self.bytes self.new)) }
-        ensures changes { ChipChanges Self.ChipState now self.old self.new (InUnitErase unit_ix (Self.unit self.old) mark (Self.bytes self.old) (Self.bytes self.new)) }
+        ensures changes { ChipChanges Self.ChipState now self.old self.new
+            (InUnitErase unit_ix (Self.unit self.old) mark (Self.bytes self.old) (Self.bytes self.new)) }
         ensures cause { OnErr result (Rose (Self.faults self.old) (Self.faults self.new)) }
         ensures honest { ChipHonest Self.ChipState self.new };
 }

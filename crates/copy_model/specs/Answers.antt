@@ -33,11 +33,13 @@ OpensWorking g = (slots : ℕ) (f : File) (files : List File) → 0 < slots → 
 -- The next bytes of the record are written behind it.
 abbrev pub PutsPiece : Geometry → Type 0
 PutsPiece g = (slots : ℕ) (f : File) (files : List File) (at : ℕ) (bytes : List ℕ) → 0 < slots → 0 < length bytes → IsPiece f at bytes →
-    answer g true (filling g slots f files at) (Writes 1 bytes) ≡ or_full g (filling g slots f files at) (gives (Tells (length bytes)) (filling g slots f files (at + length bytes)))
+    answer g true (filling g slots f files at) (Writes 1 bytes)
+    ≡ or_full g (filling g slots f files at) (gives (Tells (length bytes)) (filling g slots f files (at + length bytes)))
 
 -- The first descriptor is closed.
 abbrev pub ClosesFirst : Geometry → Type 0
-ClosesFirst g = (slots : ℕ) (d : Open) (files : List File) → 0 < slots → answer g true (with_first slots d files) (Closes 1) ≡ gives Fine (with_files slots files)
+ClosesFirst g = (slots : ℕ) (d : Open) (files : List File) → 0 < slots →
+    answer g true (with_first slots d files) (Closes 1) ≡ gives Fine (with_files slots files)
 
 -- The working file is removed while it is open: what was there before it is left.
 abbrev pub GivesUp : Geometry → Type 0
@@ -52,7 +54,8 @@ Marks g = (slots : ℕ) (f : File) (files : List File) → file_named working fi
 
 -- and its name, where no other file has that.
 abbrev pub Places : Geometry → Type 0
-Places g = (slots : ℕ) (alike : Bool) (f : File) (files : List File) → f.name ≢ working → name_refusal f.name ≡ None → file_named working files ≡ None → file_named f.name (cleared g alike f files) ≡ None →
+Places g = (slots : ℕ) (alike : Bool) (f : File) (files : List File) → f.name ≢ working → name_refusal f.name ≡ None → file_named working files ≡ None →
+    file_named f.name (cleared g alike f files) ≡ None →
     answer g true (with_files slots (cleared g alike f files)) (Renames working f.name)
     ≡ or_full g (with_files slots (cleared g alike f files)) (gives Fine (with_files slots (placed g alike f files)))
 
@@ -60,7 +63,8 @@ Places g = (slots : ℕ) (alike : Bool) (f : File) (files : List File) → f.nam
 
 -- A removal leaves the table without the file of that name.
 abbrev pub Clears : Geometry → Type 0
-Clears g = (slots : ℕ) (name : List ℕ) (files : List File) → name_refusal name ≡ None → (answer g true (with_files slots files) (Removes name)).next ≡ with_files slots (without_name name files)
+Clears g = (slots : ℕ) (name : List ℕ) (files : List File) → name_refusal name ≡ None →
+    (answer g true (with_files slots files) (Removes name)).next ≡ with_files slots (without_name name files)
 
 -- It is fine where there is one, else refused.
 abbrev pub RemovesFile : Geometry → Type 0
@@ -73,7 +77,8 @@ RemovesNone g = (slots : ℕ) (name : List ℕ) (files : List File) → name_ref
 
 -- What a name's record tells.
 abbrev pub StatsFile : Geometry → Type 0
-StatsFile g = (s : State) (name : List ℕ) (x : File) → name_refusal name ≡ None → file_named name s.table ≡ Some x → answer g true s (Stats name) ≡ gives (Shows (stat_of x)) s
+StatsFile g = (s : State) (name : List ℕ) (x : File) → name_refusal name ≡ None → file_named name s.table ≡ Some x →
+    answer g true s (Stats name) ≡ gives (Shows (stat_of x)) s
 
 abbrev pub StatsNone : Geometry → Type 0
 StatsNone g = (s : State) (name : List ℕ) → name_refusal name ≡ None → file_named name s.table ≡ None → answer g true s (Stats name) ≡ refused NotFound s

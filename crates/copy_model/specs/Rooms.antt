@@ -14,11 +14,13 @@ filling_full g f files at = first_full g (map (begun g f files) (ends_from (body
 
 -- It is the table of that place, where that has none,
 abbrev pub FullHere : Geometry → Type 0
-FullHere g = (f : File) (files : List File) (at : ℕ) → (at % body g ≡ 0) ⊎ (at ≡ length f.bytes) → at ≤ length f.bytes → has_room g (begun g f files at) ≡ false → filling_full g f files at ≡ Some (begun g f files at)
+FullHere g = (f : File) (files : List File) (at : ℕ) → (at % body g ≡ 0) ⊎ (at ≡ length f.bytes) → at ≤ length f.bytes →
+    has_room g (begun g f files at) ≡ false → filling_full g f files at ≡ Some (begun g f files at)
 
 -- else that from the next end on,
 abbrev pub FullLater : Geometry → Type 0
-FullLater g = (f : File) (files : List File) (at len : ℕ) → at % body g ≡ 0 → 0 < len → len ≤ body g → at + len ≤ length f.bytes → (len ≡ body g) ⊎ (at + len ≡ length f.bytes) → has_room g (begun g f files at) ≡ true → filling_full g f files at ≡ filling_full g f files (at + len)
+FullLater g = (f : File) (files : List File) (at len : ℕ) → at % body g ≡ 0 → 0 < len → len ≤ body g → at + len ≤ length f.bytes →
+    (len ≡ body g) ⊎ (at + len ≡ length f.bytes) → has_room g (begun g f files at) ≡ true → filling_full g f files at ≡ filling_full g f files (at + len)
 
 -- and there is none at the record's end.
 abbrev pub FullEnds : Geometry → Type 0
@@ -31,7 +33,8 @@ pub record HasRoomBehind (g : Geometry) (alike : Bool) (f : File) (files : List 
   pub placed_room : has_room g (placed g alike f files) ≡ true
 
 abbrev pub RoomBehind : Geometry → Type 0
-RoomBehind g = (alike : Bool) (f : File) (files : List File) → f.name ≢ working → has_room g (begun g f files (length f.bytes)) ≡ true → HasRoomBehind g alike f files
+RoomBehind g = (alike : Bool) (f : File) (files : List File) → f.name ≢ working → has_room g (begun g f files (length f.bytes)) ≡ true →
+    HasRoomBehind g alike f files
 
 -- So only a table of the record's bytes may have none.
 abbrev pub RecordFull : Geometry → Type 0
@@ -39,7 +42,8 @@ RecordFull g = (alike : Bool) (f : File) (files : List File) → f.name ≢ work
 
 -- Of records in order: a record that is kept has no step, and another one's come before those of the records behind it.
 abbrev pub StepsKept : Geometry → Type 0
-StepsKept g = (alike : Bool) (f : File) (rest files : List File) → keeps alike f files ≡ true → copy_steps g alike (f ∷ rest) files ≡ copy_steps g alike rest files
+StepsKept g = (alike : Bool) (f : File) (rest files : List File) → keeps alike f files ≡ true →
+    copy_steps g alike (f ∷ rest) files ≡ copy_steps g alike rest files
 
 abbrev pub StepsFull : Geometry → Type 0
 StepsFull g = (alike : Bool) (f : File) (rest files : List File) → f.name ≢ working → keeps alike f files ≡ false →

@@ -42,7 +42,8 @@ CopiesNext g = (alike : Bool) (front rest first files : List File) (f : File) �
 
 -- A record that is kept is done as it stands.
 abbrev pub KeepsNext : Type 0
-KeepsNext = (alike : Bool) (front first files : List File) (f : File) → IsNext alike front first files f → keeps alike f files ≡ true → IsCopied alike (front ++ f ∷ []) first files
+KeepsNext = (alike : Bool) (front first files : List File) (f : File) → IsNext alike front first files f → keeps alike f files ≡ true →
+    IsCopied alike (front ++ f ∷ []) first files
 
 -- What is done may be left of a copy under way.
 abbrev pub DoneIsUnder : Type 0
@@ -50,4 +51,5 @@ DoneIsUnder = (alike : Bool) (front rest first files : List File) → IsCopied a
 
 -- Once all is done, all is there, where no record has the working name.
 abbrev pub DoneIsThere : Type 0
-DoneIsThere = (alike : Bool) (source first files : List File) → file_named working source ≡ None → IsCopied alike source first files → IsAllThere alike source files
+DoneIsThere = (alike : Bool) (source first files : List File) → file_named working source ≡ None → IsCopied alike source first files →
+    IsAllThere alike source files

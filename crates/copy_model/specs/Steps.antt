@@ -19,9 +19,12 @@ writes_none _ = true
 
 -- Each such call has at most one step.
 abbrev pub OneStep : Geometry → Type 0
-OneStep g = (spare : Bool) (s : State) (ask : Ask) (t : List File) → writes_none ask ≡ true → IsAmong t (s.table ∷ steps g spare s ask) → (t ≡ s.table) ⊎ (t ≡ (answer g spare s ask).next.table)
+OneStep g = (spare : Bool) (s : State) (ask : Ask) (t : List File) → writes_none ask ≡ true → IsAmong t (s.table ∷ steps g spare s ask) →
+    (t ≡ s.table) ⊎ (t ≡ (answer g spare s ask).next.table)
 
 -- So has a write to the working file from the start of a data page on, of at most a page.
 abbrev pub OnePage : Geometry → Type 0
-OnePage g = (slots : ℕ) (f : File) (files : List File) (at : ℕ) (bytes : List ℕ) (t : List File) → 0 < slots → 0 < length bytes → IsPiece f at bytes → at % body g ≡ 0 → length bytes ≤ body g →
-    IsAmong t (begun g f files at ∷ steps g true (filling g slots f files at) (Writes 1 bytes)) → (t ≡ begun g f files at) ⊎ (t ≡ begun g f files (at + length bytes))
+OnePage g = (slots : ℕ) (f : File) (files : List File) (at : ℕ) (bytes : List ℕ) (t : List File) → 0 < slots → 0 < length bytes → IsPiece f at bytes →
+    at % body g ≡ 0 → length bytes ≤ body g →
+    IsAmong t (begun g f files at ∷ steps g true (filling g slots f files at) (Writes 1 bytes)) →
+    (t ≡ begun g f files at) ⊎ (t ≡ begun g f files (at + length bytes))

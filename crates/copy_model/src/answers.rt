@@ -1,5 +1,6 @@
 ghost use Rattle.geometry.specs.declared.geometry.Geometry.{Geometry};
-ghost use Rattle.copy_model.specs.Answers.{OpensWorking, PutsPiece, ClosesFirst, GivesUp, Marks, Places, Clears, RemovesFile, RemovesNone, StatsFile, StatsNone, Informed, OpensFile, OpensNone, ReadsOn};
+ghost use Rattle.copy_model.specs.Answers.{OpensWorking, PutsPiece, ClosesFirst, GivesUp, Marks, Places, Clears, RemovesFile, RemovesNone, StatsFile};
+ghost use Rattle.copy_model.specs.Answers.{StatsNone, Informed, OpensFile, OpensNone, ReadsOn};
 ghost use Rattle.copy_model.specs.Steps.{OneStep, OnePage};
 
 /// What the calls are answered that fill the working file and put it in its place.

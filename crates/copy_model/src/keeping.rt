@@ -8,8 +8,10 @@ ghost use Rattle.copy_model.specs.Under.{IsUnder, IsLeft, IsCopied};
 #[tactic(auto, using(crate::proofs::Again::under_left, crate::proofs::Again::left_again, crate::proofs::Again::copied_again))]
 pub fn copies_go_on()
     ensures left { (alike : Bool) (source first now : List File) → IsUnder alike source first now → IsLeft alike source first now }
-    ensures again { (alike : Bool) (source first mid now : List File) → IsLeft alike source first mid → IsLeft alike source mid now → IsLeft alike source first now }
-    ensures done { (alike : Bool) (source first mid now : List File) → IsLeft alike source first mid → IsCopied alike source mid now → IsCopied alike source first now }
+    ensures again { (alike : Bool) (source first mid now : List File) → IsLeft alike source first mid → IsLeft alike source mid now →
+        IsLeft alike source first now }
+    ensures done { (alike : Bool) (source first mid now : List File) → IsLeft alike source first mid → IsCopied alike source mid now →
+        IsCopied alike source first now }
 {}
 
 /// What the tables of a copy have of each name, from the first one to the last: of a table that an image can have.

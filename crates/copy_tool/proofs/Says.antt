@@ -16,7 +16,7 @@ use Rattle.tool_parts.specs.declared.ending.Ending.TheVariants.{Done, NotAFs, Da
 use Rattle.tool_parts.specs.Closing.{status_of}
 use Rattle.tool_parts.specs.Endings.{Speaks}
 use Rattle.tool_parts.specs.Mounting.{Checks}
-use Rattle.tool_parts.specs.Refusals.{mount_refusal, check_refusal, tight_refusal, or_ending, said_ending, unless_refused}
+use Rattle.tool_parts.specs.Refusals.{mount_refusal, check_refusal, or_ending, said_ending, unless_refused}
 use Rattle.tool_parts.proofs.Mounted.{mount_changes}
 use Rattle.tool_parts.proofs.Refusals.{not_both}
 use Rattle.tool_parts.proofs.Speaking.{writes_none, none_said}
@@ -43,10 +43,6 @@ pick_said false n = inl refl
 -- a copy that is done
 said_status : (damaged : ℕ) → (status_of (said_ending damaged) ≡ 0) ⊎ (status_of (said_ending damaged) ≡ 12)
 said_status damaged = pick_said (nat_lt 0 damaged) damaged
-
-first_none : (o p : Option Ending) → or_ending o p ≡ None → o ≡ None
-first_none None p is = refl
-first_none (Some ending) p is = is
 
 same_text : (a b c d : ℕ) → a ≡ c → b ≡ d → copied_text a b ≡ copied_text c d
 same_text a b c d one two = ap (λ (n : ℕ). copied_text n b) one ∙ ap (copied_text c) two
@@ -130,7 +126,8 @@ module _ {S D : Type 0} {from : NorOf S} {nor : NorOf D} {gf g : Geometry} where
     left = λ tells. let changes : Changes nor d d (Checks g) = mount_changes (reads_none d) in checks_leave (changes.now tells);
     longer = omega arith;
     idle = λ source_tells tells all. writes_none (reads_none d);
-    kept = λ source_tells tells untaken. writes_none (reads_none d);
+    kept = λ tells ending is. writes_none (reads_none d);
+    unmounted = λ source_tells ending is. writes_none (reads_none d);
   }
 
   -- ---- a copy that says nothing
@@ -158,15 +155,17 @@ module _ {S D : Type 0} {from : NorOf S} {nor : NorOf D} {gf g : Geometry} where
     left = changes.now;
     longer = omega (arith, ap length changes.said);
     idle = λ source_tells tells all. writes_none (idle source_tells tells all);
-    kept = λ source_tells tells untaken. ⊎_elim (λ mount. absurd (not_both (surveyed source_tells).mounts mount.1)) (λ check. writes_none (kept tells check.0 check.1)) untaken;
+    kept = λ tells why is. writes_none (kept tells why is);
+    unmounted = λ source_tells why is. absurd (not_both (surveyed source_tells).mounts is);
   }
 
   -- ---- a copy that says its line
 
   with_line : {source : S} {old mid new : D} {piece : List ℕ} (damaged : ℕ) (c : Copied) (result : Ending) → (from.tells source → IsSurveyed gf (from.bytes source) damaged) → Changes nor old mid (CopyLeaves from gf g source) → (from.tells source → nor.tells old → IsDone gf g (from.bytes source) (nor.bytes old) (nor.bytes mid) c) →
-      (from.tells source → nor.tells old → HasAll gf g (from.bytes source) (nor.bytes old) → OnlyReads nor old mid) → Says nor mid new piece → Leaves nor mid new (InSay nor mid piece) →
+      (from.tells source → nor.tells old → HasAll gf g (from.bytes source) (nor.bytes old) → OnlyReads nor old mid) →
+      (nor.tells old → (why : Ending) → check_refusal g (nor.bytes old) ≡ Some why → OnlyReads nor old mid) → Says nor mid new piece → Leaves nor mid new (InSay nor mid piece) →
       (from.tells source → nor.tells old → Speaks nor old new (copy_text gf g (from.bytes source) (nor.bytes old) (nor.bytes new)) (copy_ending gf g (from.bytes source) (nor.bytes old) (nor.bytes new)) result) → (result ≡ BoardFault) ⊎ (result ≡ said_ending damaged) → CopiesTo from nor gf g source old new result
-  with_line {source} {old} {mid} {new} {piece} damaged c result surveyed changes done idle says leaves speaks which = record {
+  with_line {source} {old} {mid} {new} {piece} damaged c result surveyed changes done idle kept says leaves speaks which = record {
     cuts = andthen (silent_cuts new changes) (widened leaves (λ image count here tells.
         let is : image ≡ nor.bytes mid = here.all_bytes (changes.cuts.told tells) in
         record {
@@ -182,16 +181,15 @@ module _ {S D : Type 0} {from : NorOf S} {nor : NorOf D} {gf g : Geometry} where
     left = λ tells. subst (λ (l : List ℕ). CopyLeaves from gf g source (nor.bytes old) l) (sym says.bytes) (changes.now tells);
     longer = omega (arith, ap length changes.said, ap length says.said.1, length-append (nor.said mid) (take says.said.0 piece));
     idle = λ source_tells tells all. none_said (idle source_tells tells all) says leaves;
-    kept = λ source_tells tells untaken. absurd (⊎_elim
-        (λ mount. not_both (surveyed source_tells).mounts mount.1)
-        (λ check. not_both (first_none (check_refusal g (nor.bytes old)) (tight_refusal g (nor.bytes mid)) (done source_tells tells).begun) check.1)
-        untaken);
+    kept = λ tells why is. none_said (kept tells why is) says leaves;
+    unmounted = λ source_tells why is. absurd (not_both (surveyed source_tells).mounts is);
   }
 
   pub copy_said : {source : S} {old mid new : D} {piece : List ℕ} (damaged : ℕ) (c : Copied) (result : Ending) → piece ≡ copied_text c.copied c.kept → result ≡ said_ending damaged → (from.tells source → IsSurveyed gf (from.bytes source) damaged) → Changes nor old mid (CopyLeaves from gf g source) → (from.tells source → nor.tells old → IsDone gf g (from.bytes source) (nor.bytes old) (nor.bytes mid) c) →
-      (from.tells source → nor.tells old → HasAll gf g (from.bytes source) (nor.bytes old) → OnlyReads nor old mid) → Says nor mid new piece → Leaves nor mid new (InSay nor mid piece) → (nor.tells mid → nor.said new ≡ nor.said mid ++ piece) → CopiesTo from nor gf g source old new result
-  copy_said {source} {old} {mid} {new} {piece} damaged c result piece_is is surveyed changes done idle says leaves whole =
-      with_line damaged c result surveyed changes done idle says leaves (λ source_tells tells.
+      (from.tells source → nor.tells old → HasAll gf g (from.bytes source) (nor.bytes old) → OnlyReads nor old mid) →
+      (nor.tells old → (why : Ending) → check_refusal g (nor.bytes old) ≡ Some why → OnlyReads nor old mid) → Says nor mid new piece → Leaves nor mid new (InSay nor mid piece) → (nor.tells mid → nor.said new ≡ nor.said mid ++ piece) → CopiesTo from nor gf g source old new result
+  copy_said {source} {old} {mid} {new} {piece} damaged c result piece_is is surveyed changes done idle kept says leaves whole =
+      with_line damaged c result surveyed changes done idle kept says leaves (λ source_tells tells.
       let now = done_as c says (done source_tells tells) in
       inr (
         is ∙ done_ending c damaged (surveyed source_tells) now,
@@ -200,10 +198,11 @@ module _ {S D : Type 0} {from : NorOf S} {nor : NorOf D} {gf g : Geometry} where
 
   -- the board failed as it said it
   pub copy_broken : {source : S} {old mid new : D} {piece : List ℕ} (damaged : ℕ) (c : Copied) → piece ≡ copied_text c.copied c.kept → (from.tells source → IsSurveyed gf (from.bytes source) damaged) → Changes nor old mid (CopyLeaves from gf g source) → (from.tells source → nor.tells old → IsDone gf g (from.bytes source) (nor.bytes old) (nor.bytes mid) c) →
-      (from.tells source → nor.tells old → HasAll gf g (from.bytes source) (nor.bytes old) → OnlyReads nor old mid) → Says nor mid new piece → Leaves nor mid new (InSay nor mid piece) → CopiesTo from nor gf g source old new BoardFault
-  copy_broken {source} {old} {mid} {new} {piece} damaged c piece_is surveyed changes done idle says leaves =
+      (from.tells source → nor.tells old → HasAll gf g (from.bytes source) (nor.bytes old) → OnlyReads nor old mid) →
+      (nor.tells old → (why : Ending) → check_refusal g (nor.bytes old) ≡ Some why → OnlyReads nor old mid) → Says nor mid new piece → Leaves nor mid new (InSay nor mid piece) → CopiesTo from nor gf g source old new BoardFault
+  copy_broken {source} {old} {mid} {new} {piece} damaged c piece_is surveyed changes done idle kept says leaves =
       let n = says.said.0 in
-      with_line damaged c BoardFault surveyed changes done idle says leaves (λ source_tells tells.
+      with_line damaged c BoardFault surveyed changes done idle kept says leaves (λ source_tells tells.
       let now = done_as c says (done source_tells tells) in
       let text = piece_is ∙ done_text c (surveyed source_tells).mounts now in
       inl (

@@ -63,7 +63,8 @@ module _ {S D : Type 0} {from : NorOf S} {nor : NorOf D} {gf g : Geometry} {sour
     left = λ tells. subst (λ (l : List ℕ). CopyLeaves from gf g source (nor.bytes old) l) (sym closes.says.bytes) (copies.left tells);
     cuts = closed_cuts result status copies closes;
     idle = λ source_tells tells all. none_closed (copies.idle source_tells tells all) closes;
-    kept = λ source_tells tells untaken. none_closed (copies.kept source_tells tells untaken) closes;
+    kept = λ tells ending is. none_closed (copies.kept tells ending is) closes;
+    unmounted = λ source_tells ending is. none_closed (copies.unmounted source_tells ending is) closes;
     behind = behind_closed behind closes;
     source_reads = source_reads;
     reads = reads_said cache reads closes.says closes.cuts.faults;

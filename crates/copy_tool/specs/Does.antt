@@ -70,10 +70,6 @@ pub record CopyCut {S D : Type 0} (from : NorOf S) (nor : NorOf D) (gf g : Geome
   pub least : length (nor.said old) ≤ count
   pub once_said : length (nor.said old) < count → image ≡ nor.bytes new
 
--- Either image ends the copy: the source isn't mounted, or mounting and the check don't take the target.
-abbrev pub IsUntaken : (gf g : Geometry) (source was : List ℕ) → Type 0
-IsUntaken gf g source was = ((ending : Ending) × (mount_refusal gf source ≡ Some ending)) ⊎ ((ending : Ending) × (check_refusal g was ≡ Some ending))
-
 -- The target has all already: each file of the source has its copy, no file has the working name, it is tidy, and two blocks are free.
 pub record HasAll (gf g : Geometry) (source was : List ℕ) : Type 0 where
   pub all : IsAllThere (alike_of gf g) (table_of gf source) (table_of g was)
@@ -86,9 +82,11 @@ pub record EndsUnread {S D : Type 0} (from : NorOf S) (nor : NorOf D) (source af
   pub cause : Rose (from.faults source) (from.faults after)
 
 -- A copy checks the target, and puts the files of the source onto it, one after the other, each under a working name until it is whole.
-pub record DoesCopy {S D : Type 0} (from : NorOf S) (nor : NorOf D) (gf g : Geometry) (source_cache cache : ℕ) (source after : S) (old new : D) (status : ℕ) : Type 0 where
+pub record DoesCopy {S D : Type 0} (from : NorOf S) (nor : NorOf D) (gf g : Geometry) (source_cache cache : ℕ) (source after : S) (old new : D)
+    (status : ℕ) : Type 0 where
   -- the summary and the closing line of the images are said, or a front of these, and 7, where a fault of the target rose; or the source failed
-  pub told : from.tells source → nor.tells old → Concludes nor old new (copy_text gf g (from.bytes source) (nor.bytes old) (nor.bytes new)) (copy_ending gf g (from.bytes source) (nor.bytes old) (nor.bytes new)) status ⊎ EndsUnread from nor source after old new status
+  pub told : from.tells source → nor.tells old → Concludes nor old new (copy_text gf g (from.bytes source) (nor.bytes old) (nor.bytes new))
+      (copy_ending gf g (from.bytes source) (nor.bytes old) (nor.bytes new)) status ⊎ EndsUnread from nor source after old new status
   -- with status 0 or 12 each file of the source has its copy; what 6, 13 and 14 leave
   pub leaves : from.tells source → nor.tells old → LeavesBy gf g (from.bytes source) (nor.bytes old) (nor.bytes new) status
   -- whatever the status, the last image may follow the first one, and each name has what it may have
@@ -97,8 +95,10 @@ pub record DoesCopy {S D : Type 0} (from : NorOf S) (nor : NorOf D) (gf g : Geom
   pub cuts : Leaves nor old new (λ image count. nor.tells old → CopyCut from nor gf g source old new image count)
   -- a target that has all already is only read, where a device fails too
   pub idle : from.tells source → nor.tells old → HasAll gf g (from.bytes source) (nor.bytes old) → WritesNone nor old new
-  -- so is one where either image isn't taken
-  pub kept : from.tells source → nor.tells old → IsUntaken gf g (from.bytes source) (nor.bytes old) → WritesNone nor old new
+  -- a target that mounting and the check don't take stays, whatever is known of the source, where a device fails too
+  pub kept : nor.tells old → (ending : Ending) → check_refusal g (nor.bytes old) ≡ Some ending → WritesNone nor old new
+  -- so does every target of a source that isn't mounted
+  pub unmounted : from.tells source → (ending : Ending) → mount_refusal gf (from.bytes source) ≡ Some ending → WritesNone nor old new
   -- the bytes behind the volume stay
   pub behind : StaysBehind nor g old new
   -- each page of either volume is read once at most

@@ -33,7 +33,8 @@ abbrev pub refusal_for : Option CopyForm → (source target : Side) → Option E
 refusal_for None source target = Some Usage
 refusal_for (Some f) source target =
     refused_as (first_of (read_refusal f.source source.unit source.size) (write_refusal_of f.target target.unit target.size))
-    (or_ending (length_refusal f.source.page f.source.block f.source.blocks source.lent) (length_refusal f.target.page f.target.block f.target.blocks target.lent))
+    (or_ending (length_refusal f.source.page f.source.block f.source.blocks source.lent)
+    (length_refusal f.target.page f.target.block f.target.blocks target.lent))
 
 -- how a copy is refused
 unfoldable pub copy_refusal_of : Asked → Option Ending

@@ -15,9 +15,9 @@ use Rattle.tool_parts.specs.declared.ending.Ending.TheVariants.{NotAFs, BoardFau
 use Rattle.tool_parts.specs.Closing.{status_of}
 use Rattle.tool_parts.specs.Later.{IsLaterStatus}
 use Rattle.tool_parts.specs.Endings.{Speaks, WritesNone}
-use Rattle.tool_parts.specs.Refusals.{mount_refusal, begin_refusal}
+use Rattle.tool_parts.specs.Refusals.{mount_refusal, check_refusal, begin_refusal}
 use Rattle.copy_tool.specs.Endings.{target_stop, copy_ending, copy_text}
-use Rattle.copy_tool.specs.Does.{HasCopies, IsFull, IsKept, IsStuck, LeavesBy, CopyLeaves, CopyCut, HasAll, IsUntaken}
+use Rattle.copy_tool.specs.Does.{HasCopies, IsFull, IsKept, IsStuck, LeavesBy, CopyLeaves, CopyCut, HasAll}
 
 -- how a copy ends that doesn't mount its source
 abbrev pub source_ends : MountErr → Ending
@@ -67,9 +67,11 @@ module _ (gf g : Geometry) (source was now : List ℕ) where
 -- Before its closing line: the summary was said, or a front of it where the target failed; or the source failed.
 pub record CopiesTo {S D : Type 0} (from : NorOf S) (nor : NorOf D) (gf g : Geometry) (source : S) (old new : D) (result : Ending) : Type 0 where
   pub cuts : Leaves nor old new (λ image count. nor.tells old → CopyCut from nor gf g source old new image count)
-  pub speaks : from.tells source → nor.tells old → Speaks nor old new (copy_text gf g (from.bytes source) (nor.bytes old) (nor.bytes new)) (copy_ending gf g (from.bytes source) (nor.bytes old) (nor.bytes new)) result ⊎ ((result ≡ SourceChipFault) × (nor.said new ≡ nor.said old))
+  pub speaks : from.tells source → nor.tells old → Speaks nor old new (copy_text gf g (from.bytes source) (nor.bytes old) (nor.bytes new))
+      (copy_ending gf g (from.bytes source) (nor.bytes old) (nor.bytes new)) result ⊎ ((result ≡ SourceChipFault) × (nor.said new ≡ nor.said old))
   pub leaves : from.tells source → nor.tells old → LeavesBy gf g (from.bytes source) (nor.bytes old) (nor.bytes new) (status_of result)
   pub left : nor.tells old → CopyLeaves from gf g source (nor.bytes old) (nor.bytes new)
   pub longer : length (nor.said old) ≤ length (nor.said new)
   pub idle : from.tells source → nor.tells old → HasAll gf g (from.bytes source) (nor.bytes old) → WritesNone nor old new
-  pub kept : from.tells source → nor.tells old → IsUntaken gf g (from.bytes source) (nor.bytes old) → WritesNone nor old new
+  pub kept : nor.tells old → (ending : Ending) → check_refusal g (nor.bytes old) ≡ Some ending → WritesNone nor old new
+  pub unmounted : from.tells source → (ending : Ending) → mount_refusal gf (from.bytes source) ≡ Some ending → WritesNone nor old new

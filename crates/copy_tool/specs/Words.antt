@@ -11,5 +11,6 @@ is_copy words = (length words == 13) && is_text (word_at words 0) (codes "copy")
 -- word that isn't empty.
 unfoldable pub copy_form_of : List (List ℕ) → Option CopyForm
 copy_form_of words =
-    if is_copy words then option_and_then (λ source. option_and_then (λ target. Some (record { source = source; target = target })) (numbers_in (drop 6 words))) (numbers_in words)
+    if is_copy words then option_and_then
+    (λ source. option_and_then (λ target. Some (record { source = source; target = target })) (numbers_in (drop 6 words))) (numbers_in words)
     else None

@@ -153,7 +153,8 @@ pub(crate) fn copy_on<N: Nor, B: Board>(
     ensures reads { OnlyReads N.NorState source.old source.new }
     ensures board_fault { result ≡ 7 → Rose (B.faults board.old) (B.faults board.new) }
     ensures source_fault { result ≡ 18 → Rose (N.faults source.old) (N.faults source.new) }
-    ensures does { DoesCopy N.NorState B.NorState plan.source plan.target (length source_bufs.old.cache.now) (length bufs.old.cache.now) source.old source.new board.old board.new result }
+    ensures does { DoesCopy N.NorState B.NorState plan.source plan.target (length source_bufs.old.cache.now)
+        (length bufs.old.cache.now) source.old source.new board.old board.new result }
 {
     let source_lent = ReaderLent {
         work: &mut *source_bufs.work,

@@ -27,7 +27,8 @@ pub(crate) struct Side {
 /// The copy that the words spell, where it is not refused.
 #[tactic(auto, unfolding(crate::specs::Plan::copy_refusal_of))]
 pub(crate) fn plan(words: &[String], source: &Side, target: &Side) -> Result<CopyPlan, Ending>
-    ensures refused { IfErr result (λ ending. copy_refusal_of (record { words = map string_bytes words.now; source = source.now; target = target.now }) ≡ Some ending) }
+    ensures refused { IfErr result
+        (λ ending. copy_refusal_of (record { words = map string_bytes words.now; source = source.now; target = target.now }) ≡ Some ending) }
     ensures accepted { OnOk result (copy_refusal_of (record { words = map string_bytes words.now; source = source.now; target = target.now }) ≡ None) }
     ensures source_fits { IfOk result (λ plan. HoldsVolume plan.source source.now.unit source.now.size) }
     ensures fits { IfOk result (λ plan. IsFitting plan.target target.now.unit target.now.size) }

@@ -54,15 +54,19 @@ pub fn copy_tool<N: Nor, B: Board>(
     bufs: &mut Buffers<'_>,
 ) -> u8
     // What is refused before a device is read: its closing line is said, and nothing else happens.
-    ensures refused { RefusesIf B.NorState board.old board.new (copy_refusal_of (asked_of N.NorState B.NorState (map string_bytes words.now) source.old board.old source_bufs.old bufs.old)) result }
+    ensures refused { RefusesIf B.NorState board.old board.new
+        (copy_refusal_of (asked_of N.NorState B.NorState (map string_bytes words.now) source.old board.old source_bufs.old bufs.old)) result }
     // All else is a copy between volumes of two geometries ..
     ensures planned { copy_refusal_of (asked_of N.NorState B.NorState (map string_bytes words.now) source.old board.old source_bufs.old bufs.old) ≡ None →
         (plan : CopyPlan) × IsPlanned (asked_of N.NorState B.NorState (map string_bytes words.now) source.old board.old source_bufs.old bufs.old) plan }
     // .. and it is done.
-    ensures does { (plan : CopyPlan) → IsPlanned (asked_of N.NorState B.NorState (map string_bytes words.now) source.old board.old source_bufs.old bufs.old) plan →
-        DoesCopy N.NorState B.NorState plan.source plan.target (length source_bufs.old.cache.now) (length bufs.old.cache.now) source.old source.new board.old board.new result }
+    ensures does { (plan : CopyPlan) →
+        IsPlanned (asked_of N.NorState B.NorState (map string_bytes words.now) source.old board.old source_bufs.old bufs.old) plan →
+        DoesCopy N.NorState B.NorState plan.source plan.target (length source_bufs.old.cache.now)
+        (length bufs.old.cache.now) source.old source.new board.old board.new result }
     // Whatever the devices tell, it comes to one of the endings of a copy, and says the closing line of that last.
-    ensures ends { (plan : CopyPlan) → IsPlanned (asked_of N.NorState B.NorState (map string_bytes words.now) source.old board.old source_bufs.old bufs.old) plan →
+    ensures ends { (plan : CopyPlan) →
+        IsPlanned (asked_of N.NorState B.NorState (map string_bytes words.now) source.old board.old source_bufs.old bufs.old) plan →
         EndsAmong B.NorState MayEndCopy board.old board.new result }
     // The source is only read, refused or not.
     ensures reads { OnlyReads N.NorState source.old source.new }

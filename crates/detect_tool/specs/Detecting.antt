@@ -22,7 +22,8 @@ pub record ReadsNot {D : Type 0} (nor : NorOf D) (old new : D) (status : ℕ) : 
   pub rose : Rose (nor.faults old) (nor.faults new)
   pub reads : OnlyReads nor old new
 
--- The lines of the candidates were said, best first, and where there is none a closing line; or a front of these, and status 7, where a fault of the board rose. Nothing is written, and a cut leaves a front of what is said.
+-- The lines of the candidates were said, best first, and where there is none a closing line; or a front of these, and status 7,
+-- where a fault of the board rose. Nothing is written, and a cut leaves a front of what is said.
 pub record DetectsAll {D : Type 0} (nor : NorOf D) (old new : D) (status : ℕ) : Type 0 where
   pub list : List Found
   pub ranked : nor.tells old → AreRanked (nor.bytes old) list

@@ -8,7 +8,8 @@ use Rattle.volume_detect.specs.Places.{byte_of}
 use Rattle.volume_rank.specs.declared.found.Found.{Found}
 use Rattle.volume_rank.specs.Finds.{IsFound}
 
--- A chip begins with a volume, and ends with it, or the volume's magic tells where it ends; its block has one of the sizes that are looked for, and is an erase unit.
+-- A chip begins with a volume, and ends with it, or the volume's magic tells where it ends; its block has one of the sizes that are looked for,
+-- and is an erase unit.
 pub record BeginsWith (file : List ℕ) (g : Geometry) : Type 0 where
   pub block : (j : ℕ) × (j < 7) × (g.block ≡ 4096 * 2 ^ j)
   pub phys : g.phys ≡ g.block

@@ -17,11 +17,13 @@ last_text first last = if first == last then [] else codes "-" ++ decimal last
 
 -- the byte at which a candidate begins, the bytes of its page and block, and its blocks
 unfoldable pub place_text : Found → List ℕ
-place_text f = (codes "at " ++ decimal (byte_of f.place)) ++ (codes " page " ++ decimal f.volume.page) ++ (codes " block " ++ decimal f.volume.block) ++ (codes " blocks " ++ decimal f.volume.blocks)
+place_text f = (codes "at " ++ decimal (byte_of f.place)) ++ (codes " page " ++ decimal f.volume.page) ++ (codes " block " ++ decimal f.volume.block)
+    ++ (codes " blocks " ++ decimal f.volume.blocks)
 
 -- the numbers of meta bytes by which most files are whole, what the magic tells, how many files are whole, and how many ids are damaged
 unfoldable pub counts_text : Found → List ℕ
-counts_text f = (codes " meta " ++ decimal f.volume.meta) ++ last_text f.volume.meta f.last_meta ++ codes " magic " ++ kind_word f.volume.magic ++ (codes " files " ++ decimal f.counts.whole) ++ (codes " damaged " ++ decimal f.counts.damaged)
+counts_text f = (codes " meta " ++ decimal f.volume.meta) ++ last_text f.volume.meta f.last_meta ++ codes " magic " ++ kind_word f.volume.magic
+    ++ (codes " files " ++ decimal f.counts.whole) ++ (codes " damaged " ++ decimal f.counts.damaged)
 
 -- the line of a candidate
 unfoldable pub found_line : Found → List ℕ

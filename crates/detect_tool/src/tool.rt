@@ -79,7 +79,8 @@ pub fn detect_tool<B: Board>(words: &[String], board: &mut B, memory: &mut Memor
     // What is refused before the chip is read: its closing line is said, and nothing else happens.
     ensures refused { RefusesIf B.NorState board.old board.new (refusal_of (map string_bytes words.now) (B.size board.old) (lengths_of memory.old)) result }
     // Else the lines of the candidates are said, best first.
-    ensures detects { refusal_of (map string_bytes words.now) (B.size board.old) (lengths_of memory.old) ≡ None → Detects B.NorState board.old board.new result }
+    ensures detects { refusal_of (map string_bytes words.now) (B.size board.old) (lengths_of memory.old) ≡ None →
+        Detects B.NorState board.old board.new result }
     // A fault is told only where one was counted.
     ensures board_fault { result ≡ 7 → Rose (B.faults board.old) (B.faults board.new) }
 {

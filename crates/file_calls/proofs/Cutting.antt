@@ -28,18 +28,22 @@ use Rattle.flash_view.specs.declared.kinds.StepErr.{StepErr}
 use Rattle.flash_view.specs.declared.view.View.{View}
 use Rattle.flash_view.specs.Same.{OnlyLooks}
 use Rattle.flash_view.specs.Steps.{Step, Stepped, Finishes, stopped}
-use Rattle.flash_view.proofs.Stepped.{after_look, stepped_then, fails_as, ends_as}
+use Rattle.flash_view.proofs.Stepped.{fails_as, ends_as}
 use Rattle.call_model.proofs.Tables.{file_of-id}
 use Rattle.file_drop.specs.Truncates.{shortened, truncating}
 use Rattle.fd_table.specs.declared.slot.FdSlot.{FdSlot}
 use Rattle.fd_table.specs.Slots.{descriptors, opened}
-use Rattle.file_calls.specs.Replies.{is_change, may_answer, names_fault}
+use Rattle.file_calls.specs.Replies.{is_change, may_answer}
+use Rattle.file_calls.specs.Slots.{slots_fault}
 use Rattle.file_calls.specs.States.{IsImageOf}
 use Rattle.file_calls.specs.Collecting.{RoomCut, seeking_page}
 use Rattle.file_calls.specs.Refusals.{has_room_beside, IsResized, HasRoomAfter}
 use Rattle.file_calls.specs.Cuts.{CanCut, JobCut, cutting}
+use Rattle.file_calls.specs.Cleans.{index_taken, Taken}
 use Rattle.file_calls.specs.Goes.{Goes}
-use Rattle.file_calls.proofs.Going.{is_flat, not_collects, IsOneStep, one_step, one_does, before_or_after, IsStep, goes_by, named_fine, no_gift, refuses_same, stop_name}
+use Rattle.file_calls.proofs.Numbered.{numbered_fine}
+use Rattle.file_calls.proofs.CleansBy.{cleans_as, taken_as, taken_after, taken_then}
+use Rattle.file_calls.proofs.Going.{is_flat, not_collects, IsOneStep, one_step, one_does, before_or_after, IsStep, goes_by, no_gift, refuses_same, stop_slots}
 use Rattle.file_calls.proofs.Paged.{room_for_one, left_since}
 use Rattle.file_calls.proofs.Descriptors.{open_in, file_at, stat_is}
 use Rattle.file_calls.proofs.Restates.{the_file, the_file_is}
@@ -82,11 +86,11 @@ abbrev pub where_true : Step Bool → Step (Unit {0})
 where_true step = record { needs = step.needs; cut = step.cut; done = λ g was now ok. step.done g was now true }
 
 module _ {N : Type 0} {nor : NorOf N} {old new : View N nor} {step : Step Bool} where
-  pub ends_true : Stepped stopped old new (Ok true) step → Stepped stopped old new (Ok tt) (where_true step)
-  ends_true call = ends_as call (λ tells need. record { needs = need; cut = λ c cut. cut }) (λ tells need done. done)
+  pub ends_true : Taken stopped 1 0 old new (Ok true) step → Taken stopped 1 0 old new (Ok tt) (where_true step)
+  ends_true call = taken_as call (ends_as call.steps (λ tells need. record { needs = need; cut = λ c cut. cut }) (λ tells need done. done)) (λ tells need. need) (λ e. e)
 
-  pub fails_true : {why : StepErr} → Stepped stopped old new (Err why) step → Stepped stopped old new (Err why) (where_true step)
-  fails_true call = fails_as call (λ k. k) (λ k. k) call.means (λ tells need. record { needs = need; cut = λ c cut. cut })
+  pub fails_true : {why : StepErr} → Taken stopped 1 0 old new (Err why) step → Taken stopped 1 0 old new (Err why) (where_true step)
+  fails_true call = taken_as call (fails_as call.steps (λ k. k) (λ k. k) call.steps.means (λ tells need. record { needs = need; cut = λ c cut. cut })) (λ tells need. need) (λ e. e)
 
 -- a cut while a page is sought
 seek_cut : (g : Geometry) (after : List File) (was image : List ℕ) → RoomCut g was image → JobCut g after was image
@@ -103,16 +107,18 @@ then_cuts g was mid id size f can made = record {
 
 module _ {N : Type 0} {nor : NorOf N} {old new : View N nor} (id size : ℕ) (f : File) where
   -- no page could be sought
-  pub seek_failed : {why : StepErr} → Stepped stopped old new (Err why) seeking_page → Stepped stopped old new (Err why) (cutting id size f)
-  seek_failed call = fails_as call (λ k. k) (λ k. k) call.means (λ tells can. record { needs = record { tidy = can.tidy; reserve = can.reserve }; cut = λ c cut. seek_cut _ _ _ c cut })
+  pub seek_failed : {why : StepErr} → Taken stopped 1 0 old new (Err why) seeking_page → Taken stopped 1 0 old new (Err why) (cutting id size f)
+  seek_failed call = taken_as call (fails_as call.steps (λ k. k) (λ k. k) call.steps.means (λ tells can. record { needs = record { tidy = can.tidy; reserve = can.reserve }; cut = λ c cut. seek_cut _ _ _ c cut }))
+      (λ tells can. record { tidy = can.tidy; reserve = can.reserve }) (λ e. e)
 
   -- there was none
-  pub none_found : Stepped stopped old new (Ok false) seeking_page → Stepped stopped old new (Ok false) (cutting id size f)
-  none_found call = ends_as call (λ tells can. record { needs = record { tidy = can.tidy; reserve = can.reserve }; cut = λ c cut. seek_cut _ _ _ c cut }) (λ tells can none. none)
+  pub none_found : Taken stopped 1 0 old new (Ok false) seeking_page → Taken stopped 1 0 old new (Ok false) (cutting id size f)
+  none_found call = taken_as call (ends_as call.steps (λ tells can. record { needs = record { tidy = can.tidy; reserve = can.reserve }; cut = λ c cut. seek_cut _ _ _ c cut }) (λ tells can none. none))
+      (λ tells can. record { tidy = can.tidy; reserve = can.reserve }) (λ e. e)
 
   -- one was had, and then the file was to be cut
-  pub cut_then : {mid : View N nor} {r : Result (Unit {0}) StepErr} → Stepped stopped old mid (Ok true) seeking_page → Stepped stopped mid new r (truncating id size f) → Stepped stopped old new r (where_true (cutting id size f))
-  cut_then first next = stepped_then first next
+  pub cut_then : {mid : View N nor} {r : Result (Unit {0}) StepErr} → Taken stopped 1 0 old mid (Ok true) seeking_page → Stepped stopped mid new r (truncating id size f) → Taken stopped 1 0 old new r (where_true (cutting id size f))
+  cut_then first next = taken_then (λ h was image cut. cut.reserve) first next
       (λ tells can. record { needs = record { tidy = can.tidy; reserve = can.reserve }; cut = λ c cut. seek_cut _ _ _ c cut })
       (λ tells can made. then_cuts _ _ _ id size f can made)
 
@@ -171,20 +177,21 @@ module _ {D : Type 0} {nor : NorOf D} {g : Geometry} {old : D} {slots : List FdS
     }
 
 -- No page was had for the cut, since the table had no room: nothing is changed but where pages stand.
-pub goes_cornered : {N : Type 0} {nor : NorOf N} {old mid new : View N nor} {slots : List FdSlot} {after : List (Option Open)} {id size : ℕ} {f : File} (ask : Ask) (reply : Answer) → is_flat ask ≡ true → is_change ask ≡ true → cuts_file ask ≡ true → names_fault ask ≡ None →
-    IsStep nor old.geometry slots ask reply after old.nor.now (where_true (cutting id size f)) → OnlyLooks old mid → old.wrote ≡ false → may_answer ask (Refuses Tight) ≡ true → Stepped stopped mid new (Ok false) (cutting id size f) → Goes nor old.geometry ask old.nor.now new.nor.now slots slots new.wrote (Refuses Tight)
-goes_cornered {nor = nor} {old = old} {mid = mid} {new = new} {id = id} {size = size} {f = f} ask reply flat change cuts fine does looks fresh may taken =
-    let call : Stepped stopped old new (Ok false) (cutting id size f) = after_look looks taken (λ tells can. record { needs = can; cut = λ c cut. cut; done = λ c had done. done }) in
+pub goes_cornered : {N : Type 0} {nor : NorOf N} {old mid new : View N nor} {slots : List FdSlot} {after : List (Option Open)} {id size : ℕ} {f : File} (ask : Ask) (reply : Answer) → is_flat ask ≡ true → is_change ask ≡ true → cuts_file ask ≡ true → slots_fault old.geometry (descriptors slots) ask ≡ None →
+    IsStep nor old.geometry slots ask reply after old.nor.now (where_true (cutting id size f)) → OnlyLooks old mid → old.wrote ≡ false → may_answer ask (Refuses Tight) ≡ true → Taken stopped (index_taken ask) 0 mid new (Ok false) (cutting id size f) → Goes nor old.geometry ask old.nor.now new.nor.now slots slots new.wrote (Refuses Tight)
+goes_cornered {nor = nor} {old = old} {mid = mid} {new = new} {slots = slots} {id = id} {size = size} {f = f} ask reply flat change cuts fine does looks fresh may taken =
+    let all = taken_after looks taken in
+    let call : Stepped stopped old new (Ok false) (cutting id size f) = all.steps in
     goes_by ask (Refuses Tight) new.wrote
     (record {
       among = may;
       brief = λ bytes e. absurd (no_gift (Refuses Tight) bytes refl e);
-      named = named_fine ask (Refuses Tight) new.wrote fine (stop_name Tight tt);
+      numbered = numbered_fine old.geometry slots ask (Refuses Tight) new.wrote fine (stop_slots Tight tt);
       still = λ refusal. refl;
       keeps = λ k. refl;
     })
     (wider call.cuts (λ tells image cut s here. does.cut s here image (cut (does.can s here))))
-    (wider call.trims (λ tells image trim s here. trim (does.can s here)))
+    (wider call.upkeep (λ tells image kept s here. kept (does.can s here)))
     (λ s here no_fault whole.
     let can = does.can s here in
     let none = call.ends here.tells can in
@@ -203,6 +210,8 @@ goes_cornered {nor = nor} {old = old} {mid = mid} {new = new} {id = id} {size = 
     (λ e. absurd (let no : Tight ≡ DeviceFault = refuses_same Tight DeviceFault e in cc))
     (λ d e. absurd (let no : Tight ≡ Damaged d = refuses_same Tight (Damaged d) e in cc))
     (λ look. absurd (let no : true ≡ false = sym change ∙ look in cc))
+    (λ why e. absurd (let no : None ≡ Some why = sym fine ∙ e in cc))
+    (λ s here write none. cleans_as (λ e. absurd (let no : false ≡ true = e in cc)) (all.cleans here.tells (does.can s here)))
 
 -- ---- cuts by descriptor
 

@@ -26,7 +26,8 @@ use Rattle.file_read.specs.Whole.{IsFileOf}
 use Rattle.fd_table.specs.declared.slot.FdSlot.{FdSlot}
 use Rattle.fd_table.specs.Slots.{descriptors, held, opened}
 use Rattle.file_calls.specs.declared.told.Told.TheVariants.{Done, Number as AsNumber}
-use Rattle.file_calls.specs.Replies.{may_answer, may_meet, names_fault, is_change, reads_file, base_at}
+use Rattle.file_calls.specs.Replies.{may_answer, may_meet, is_change, reads_file, base_at}
+use Rattle.file_calls.specs.Slots.{closed_fault, slots_fault}
 use Rattle.file_calls.specs.States.{IsImageOf}
 use Rattle.file_calls.specs.Goes.{Goes}
 use Rattle.file_calls.specs.Moves.{with_slots, Moves}
@@ -35,7 +36,8 @@ use Rattle.table_model.specs.Steps.{done_steps}
 use Rattle.call_model.proofs.Tables.{file_of-id}
 use Rattle.file_drop.specs.Removals.{removing}
 use Rattle.file_calls.proofs.Removing.{has_by}
-use Rattle.file_calls.proofs.Going.{same_slots, goes_refused, goes_missed, IsOneStep, one_step, one_does, before_or_after, IsStep, is_flat}
+use Rattle.file_calls.proofs.Numbered.{numbered_fine, numbered_refused}
+use Rattle.file_calls.proofs.Going.{same_slots, no_refusal, goes_refused, goes_barred, goes_missed, IsOneStep, one_step, one_does, before_or_after, IsStep, is_flat}
 use Rattle.room_laws.proofs.Staying.{reserve_mends}
 use Rattle.geometry.specs.declared.geometry.Geometry.{Geometry}
 use Rattle.table_model.specs.declared.call.Whence.{Whence}
@@ -119,12 +121,13 @@ open_in slots s fd found same at = ap (λ (l : List (Option Open)). open_at l fd
 
 -- a call that asks nothing of the device, through a number that is closed
 pub closed_moves : (ask : Ask) (slots : List FdSlot) (fd : ℕ) → open_at (descriptors slots) fd ≡ None → ((g : Geometry) (spare : Bool) (s : State) → open_at s.slots fd ≡ None → answer g spare s ask ≡ refused BadDescriptor s) → may_answer ask (Refuses BadDescriptor) ≡ true →
-    Moves ask slots slots (Err BadDescriptor)
-closed_moves ask slots fd none is may = record {
+    ((g : Geometry) → slots_fault g (descriptors slots) ask ≡ Some BadDescriptor) → Moves ask slots slots (Err BadDescriptor)
+closed_moves ask slots fd none is may barred = record {
   answers = λ g spare s same. is g spare s (open_in slots s fd None same none) ∙ ap (λ (n : State). gives (Refuses BadDescriptor) n) (sym (same_slots s (descriptors slots) same));
   still = λ refusal. refl;
   among = may;
   calm = refl;
+  numbered = λ g. numbered_refused g slots ask BadDescriptor false (barred g) refl;
 }
 
 pub tell_moves : (slots : List FdSlot) (fd : ℕ) (slot : FdSlot) → open_at (descriptors slots) fd ≡ Some (opened slot) → Moves (Tells fd) slots slots (Ok (AsNumber slot.offset))
@@ -133,6 +136,7 @@ tell_moves slots fd slot at = record {
   still = λ refusal. refl;
   among = refl;
   calm = refl;
+  numbered = λ g. numbered_fine g slots (Tells fd) (Number slot.offset) false (ap closed_fault at) (λ why of e. no_refusal (Number slot.offset) why refl e);
 }
 
 pub flush_moves : (slots : List FdSlot) (fd : ℕ) (slot : FdSlot) → open_at (descriptors slots) fd ≡ Some (opened slot) → Moves (Flushes fd) slots slots (Ok Done)
@@ -141,6 +145,7 @@ flush_moves slots fd slot at = record {
   still = λ refusal. refl;
   among = refl;
   calm = refl;
+  numbered = λ g. numbered_fine g slots (Flushes fd) Fine false (ap closed_fault at) (λ why of e. no_refusal Fine why refl e);
 }
 
 pub close_moves : (slots after : List FdSlot) (fd : ℕ) (slot : FdSlot) → open_at (descriptors slots) fd ≡ Some (opened slot) → descriptors after ≡ put_at (descriptors slots) fd None → Moves (Closes fd) slots after (Ok Done)
@@ -149,6 +154,7 @@ close_moves slots after fd slot at put = record {
   still = λ refusal. absurd (let no : false ≡ true = refusal in cc);
   among = refl;
   calm = refl;
+  numbered = λ g. numbered_fine g slots (Closes fd) Fine false (ap closed_fault at) (λ why of e. no_refusal Fine why refl e);
 }
 
 -- ---- over a device
@@ -183,13 +189,13 @@ module _ {D : Type 0} {nor : NorOf D} {g : Geometry} {old : D} {slots : List FdS
   never_missing at s here none = let w = file_at at s here in let no : Some w.file ≡ None = sym w.listed ∙ none in cc
 
 -- A closed number.
-pub goes_closed : {D : Type 0} {nor : NorOf D} {g : Geometry} {d : D} {slots : List FdSlot} (ask : Ask) (fd : ℕ) (wrote : Bool) → wrote ≡ false → is_flat ask ≡ true → names_fault ask ≡ None → may_meet ask BadDescriptor ≡ true → open_at (descriptors slots) fd ≡ None →
+pub goes_closed : {D : Type 0} {nor : NorOf D} {g : Geometry} {d : D} {slots : List FdSlot} (ask : Ask) (fd : ℕ) (wrote : Bool) → wrote ≡ false → is_flat ask ≡ true → may_answer ask (Refuses BadDescriptor) ≡ true → slots_fault g (descriptors slots) ask ≡ Some BadDescriptor → open_at (descriptors slots) fd ≡ None →
     ((s : State) → open_at s.slots fd ≡ None → answer g (has_spare g (nor.bytes d)) s ask ≡ refused BadDescriptor s) → Goes nor g ask d d slots slots wrote (Refuses BadDescriptor)
-goes_closed {D} {nor} {g} {d} {slots} ask fd wrote none flat fine met closed is =
-    goes_refused {T = Unit {0}} ask BadDescriptor wrote none (reads_none d) flat fine met (λ e. absurd (cc)) (λ s here no_fault. is s (open_in slots s fd None here.slots closed))
+goes_closed {D} {nor} {g} {d} {slots} ask fd wrote none flat may barred closed is =
+    goes_barred ask BadDescriptor wrote none (reads_none d) flat may refl barred (λ s here. is s (open_in slots s fd None here.slots closed))
 
 -- A look for a page of the file that failed.
-pub goes_unread : {D : Type 0} {nor : NorOf D} {g : Geometry} {old new : D} {slots : List FdSlot} (ask : Ask) (why : FsErr) (wrote : Bool) → wrote ≡ false → OnlyReads nor old new → is_flat ask ≡ true → names_fault ask ≡ None → may_meet ask DeviceFault ≡ true → (is_change ask || reads_file ask) ≡ true → MayMiss why →
+pub goes_unread : {D : Type 0} {nor : NorOf D} {g : Geometry} {old new : D} {slots : List FdSlot} (ask : Ask) (why : FsErr) (wrote : Bool) → wrote ≡ false → OnlyReads nor old new → is_flat ask ≡ true → slots_fault g (descriptors slots) ask ≡ None → may_meet ask DeviceFault ≡ true → (is_change ask || reads_file ask) ≡ true → MayMiss why →
     (why ≡ DeviceFault → Rose (nor.faults old) (nor.faults new)) → ((s : State) → IsImageOf nor g old slots s → (why ≡ DeviceFault → ⊥) → ⊥) → Goes nor g ask old new slots slots wrote (Refuses why)
 goes_unread ask DeviceFault wrote none reads flat fine met reader missed cause never = goes_refused {T = Unit {0}} ask DeviceFault wrote none reads flat fine met (λ e. cause refl) (λ s here no_fault. absurd (no_fault refl))
 goes_unread ask (Damaged d) wrote none reads flat fine met reader missed cause never = goes_missed ask d wrote none reads flat fine reader missed (λ s here. never s here (λ e. cc))
@@ -247,7 +253,7 @@ module _ {D : Type 0} {nor : NorOf D} {g : Geometry} {old : D} {slots : List FdS
       ∙ rw (t.0, t.1, here.slots) refl
 
 -- A read that failed: the device, or a page isn't there.
-pub unread_by : {D : Type 0} {nor : NorOf D} {g : Geometry} {old new : D} {slots : List FdSlot} {T : Type 0} (id : ℕ) (ask : Ask) (why : StepErr) (wrote : Bool) → wrote ≡ false → OnlyReads nor old new → is_flat ask ≡ true → names_fault ask ≡ None → may_meet ask DeviceFault ≡ true → (is_change ask || reads_file ask) ≡ true → IsMissing id why →
+pub unread_by : {D : Type 0} {nor : NorOf D} {g : Geometry} {old new : D} {slots : List FdSlot} {T : Type 0} (id : ℕ) (ask : Ask) (why : StepErr) (wrote : Bool) → wrote ≡ false → OnlyReads nor old new → is_flat ask ≡ true → slots_fault g (descriptors slots) ask ≡ None → may_meet ask DeviceFault ≡ true → (is_change ask || reads_file ask) ≡ true → IsMissing id why →
     (IsErrOf {T = T} (Err why) StepFault → Rose (nor.faults old) (nor.faults new)) → ((s : State) → IsImageOf nor g old slots s → HoldsOrFault {T = T} (Err why) (λ x. Unit {0})) → Goes nor g ask old new slots slots wrote (Refuses (as_fs_err why))
 unread_by id ask StepFault wrote none reads flat fine met reader missing cause told = goes_unread ask DeviceFault wrote none reads flat fine met reader tt (λ e. cause refl) (λ s here no_fault. no_fault refl)
 unread_by id ask (StepDamaged d) wrote none reads flat fine met reader missing cause told = goes_unread ask (Damaged d) wrote none reads flat fine met reader missing.apart (λ e. absurd (cc)) (λ s here no_fault. told s here)

@@ -1,10 +1,10 @@
 -- Collections in calls, by what cleaning block after block tells.
 use Rattle.std.proofs.Common.{◌≡◌, ℕ, ◌⊎◌, ⊎_elim, inl, List, length, Bool, true, false, refl, sym, ◌∙◌, ap, subst}
-use Rattle.std.specs.Prelude.{Result, Ok, Err, IsErrOf}
+use Rattle.std.specs.Prelude.{Result, Ok, Err, IsErrOf, Some, None}
 use Rattle.geometry.specs.declared.geometry.Geometry.{Geometry}
 use Rattle.nor_core.specs.declared.state.NorState.{Ghosts as NorOf}
-use Rattle.nor_core.specs.Device.{Changes}
-use Rattle.nor_core.proofs.Cuts.{wider}
+use Rattle.nor_core.specs.Device.{Changes, OnlyReads}
+use Rattle.nor_core.proofs.Cuts.{wider, unchanged}
 use Rattle.table_model.specs.declared.error.FsErr.{FsErr}
 use Rattle.table_model.specs.declared.error.FsErr.TheVariants.{Tight as FsTight, DeviceFault, Damaged}
 use Rattle.table_model.specs.Table.{State}
@@ -18,8 +18,8 @@ use Rattle.image_model.specs.Tidy.{IsTidy, HasReserve, has_spare}
 use Rattle.room_laws.specs.Stopping.{CanClean}
 use Rattle.room_laws.proofs.Stops.{reserve_can_clean}
 use Rattle.block_gc.specs.declared.room.RoomErr.TheVariants.{Step, Tight}
-use Rattle.block_gc.specs.RoomMade.{CollectCut}
-use Rattle.trim_laws.specs.Trim.{Trims}
+use Rattle.block_gc.specs.RoomMade.{CollectCut, IsReady}
+use Rattle.trim_laws.specs.Upkeep.{Upkeep}
 use Rattle.flash_view.specs.declared.kinds.StepErr.{StepErr}
 use Rattle.flash_view.specs.declared.kinds.StepErr.TheVariants.{DeviceFault as StepFault, Damaged as StepDamaged}
 use Rattle.flash_view.specs.declared.view.View.{View}
@@ -27,10 +27,12 @@ use Rattle.flash_view.specs.Steps.{Stepped, as_fs_err, stopped}
 use Rattle.flash_view.proofs.Stepped.{view_image}
 use Rattle.fd_table.specs.declared.slot.FdSlot.{FdSlot}
 use Rattle.file_calls.specs.Collecting.{RoomCut, packing}
+use Rattle.file_calls.specs.Cleans.{SweptFor, CleansFor}
 use Rattle.file_calls.specs.States.{IsImageOf}
-use Rattle.file_calls.specs.Replies.{is_of_name, may_answer}
+use Rattle.file_calls.specs.Replies.{is_of_slots, may_answer}
 use Rattle.file_calls.specs.Goes.{CallCut, IsDoable, IsCorner, Goes}
-use Rattle.file_calls.proofs.Going.{IsFit, goes_by, named_fine, is_first, no_gift, refuses_same, stop_name, stop_apart, step_stops, step_among, fault_is}
+use Rattle.file_calls.proofs.Numbered.{numbered_fine}
+use Rattle.file_calls.proofs.Going.{IsFit, goes_by, is_first, no_gift, refuses_same, stop_slots, stop_apart, step_stops, step_among, fault_is}
 
 -- ---- what is told of a collection
 
@@ -42,6 +44,17 @@ view_can {nor = nor} v sized tells tidy reserve = reserve_can_clean v.geometry (
 pub room_cuts : {N : Type 0} {nor : NorOf N} {d : N} (old : View N nor) → (nor.tells old.nor.now → length (nor.bytes old.nor.now) ≡ nor.size old.nor.now) → Changes nor old.nor.now d (λ was image. IsTidy old.geometry was → CollectCut old.geometry was image) →
     Changes nor old.nor.now d (λ was image. IsTidy old.geometry was → RoomCut old.geometry was image)
 room_cuts old sized changes = wider changes (λ tells image cut tidy. let w = cut tidy in record { keeps = w.keeps; mends = λ reserve. w.mends (view_can old sized tells tidy reserve) })
+
+-- the blocks that it cleans, where each cleaning began without the pages that it is for
+pub room_cleans : {N : Type 0} {nor : NorOf N} {d : N} {index pages : ℕ} {P : Type 0} (old : View N nor) → Changes nor old.nor.now d (λ was image. IsTidy old.geometry was → RoomCut old.geometry was image) → IsTidy old.geometry (nor.bytes old.nor.now) →
+    (IsReady old.geometry (nor.bytes old.nor.now) index pages → OnlyReads nor old.nor.now d) → ((P → ⊥) → SweptFor old.geometry index pages (nor.bytes old.nor.now) (nor.bytes d)) → CleansFor nor old.geometry index pages old.nor.now d P
+room_cleans {d = d} old changes tidy idle needed = record {
+  mid = d;
+  first = wider changes (λ tells image cut. cut tidy);
+  idle = idle;
+  needed = needed;
+  rest = unchanged d (λ was image. HasReserve old.geometry was → HasReserve old.geometry image) (λ tells reserve. reserve);
+}
 
 -- a step of it that was not done met a fault
 pub step_fault : (why : StepErr) → (Step why ≡ Step StepFault) ⊎ (Step why ≡ Tight) → why ≡ StepFault
@@ -68,11 +81,11 @@ flat_does g image s = record { done = ap (λ (o : Outcome). is_refusal o.answer)
 no_corner : (g : Geometry) (image : List ℕ) (s : State) → IsCorner g image s Collects → ⊥
 no_corner g image s corner = let no : false ≡ true = corner.cuts in cc
 
-gc_refused : (why : FsErr) (slots : List FdSlot) (wrote : Bool) → may_answer Collects (Refuses why) ≡ true → ((w : FsErr) → is_of_name w ≡ true → Refuses why ≡ Refuses w → ⊥) → IsFit Collects slots slots wrote (Refuses why)
-gc_refused why slots wrote may no_name = record {
+gc_refused : (g : Geometry) (why : FsErr) (slots : List FdSlot) (wrote : Bool) → may_answer Collects (Refuses why) ≡ true → ((w : FsErr) → is_of_slots w ≡ true → Refuses why ≡ Refuses w → ⊥) → IsFit g Collects slots slots wrote (Refuses why)
+gc_refused g why slots wrote may other = record {
   among = may;
   brief = λ bytes e. absurd (no_gift (Refuses why) bytes refl e);
-  named = named_fine Collects (Refuses why) wrote refl no_name;
+  numbered = numbered_fine g slots Collects (Refuses why) wrote refl other;
   still = λ refusal. refl;
   keeps = λ k. refl;
 }
@@ -85,15 +98,15 @@ module _ {N : Type 0} {nor : NorOf N} {old new : View N nor} (slots : List FdSlo
     table = is_first (table_of old.geometry image) s.table (steps old.geometry (has_spare old.geometry (nor.bytes old.nor.now)) s Collects) (w.keeps.table ∙ sym here.table);
   })
 
-  gc_trims : {r : Result Bool StepErr} → Stepped stopped old new r packing → Changes nor old.nor.now new.nor.now (λ was image. (s : State) → IsImageOf nor old.geometry old.nor.now slots s → Trims old.geometry was image)
-  gc_trims call = wider call.trims (λ tells image trim s here. trim here.tidy)
+  gc_upkeep : {r : Result Bool StepErr} → Stepped stopped old new r packing → Changes nor old.nor.now new.nor.now (λ was image. (s : State) → IsImageOf nor old.geometry old.nor.now slots s → Upkeep old.geometry was image)
+  gc_upkeep call = wider call.upkeep (λ tells image kept s here. kept here.tidy)
 
   -- all is packed
   pub gc_done : Stepped stopped old new (Ok false) packing → Goes nor old.geometry Collects old.nor.now new.nor.now slots slots new.wrote Fine
   gc_done call = goes_by Collects Fine new.wrote
-      (record { among = refl; brief = λ bytes e. absurd (cc); named = named_fine Collects Fine new.wrote refl (λ why name e. cc); still = λ refusal. refl; keeps = λ k. refl })
+      (record { among = refl; brief = λ bytes e. absurd (cc); numbered = numbered_fine old.geometry slots Collects Fine new.wrote refl (λ why of e. cc); still = λ refusal. refl; keeps = λ k. refl })
       (gc_cuts call)
-      (gc_trims call)
+      (gc_upkeep call)
       (λ s here no_fault whole.
       let now = call.ends here.tells here.tidy in
       let flat = flat_collects old.geometry (has_spare old.geometry (nor.bytes old.nor.now)) s in
@@ -109,13 +122,14 @@ module _ {N : Type 0} {nor : NorOf N} {old new : View N nor} (slots : List FdSlo
       (λ s here w. flat_does old.geometry (nor.bytes old.nor.now) s)
       (λ none. call.framed.untouched fresh none)
       (λ e. absurd (cc)) (λ d e. absurd (cc)) (λ look. absurd (let no : true ≡ false = look in cc))
+      (λ w e. absurd (let no : None ≡ Some w = e in cc)) (λ s here write other. absurd (other refl))
 
   -- collection is stuck
   pub gc_stuck : Stepped stopped old new (Ok true) packing → Goes nor old.geometry Collects old.nor.now new.nor.now slots slots new.wrote (Refuses FsTight)
   gc_stuck call = goes_by Collects (Refuses FsTight) new.wrote
-      (gc_refused FsTight slots new.wrote refl (stop_name FsTight tt))
+      (gc_refused old.geometry FsTight slots new.wrote refl (stop_slots FsTight tt))
       (gc_cuts call)
-      (gc_trims call)
+      (gc_upkeep call)
       (λ s here no_fault whole. absurd (whole (record { why = inl refl; doable = flat_does old.geometry (nor.bytes old.nor.now) s; tight = refl })))
       (λ s here is. record { packed = λ e. absurd (cc); stuck = λ e. call.ends here.tells here.tidy })
       (λ s here corner tight. absurd (no_corner old.geometry (nor.bytes old.nor.now) s corner))
@@ -123,15 +137,16 @@ module _ {N : Type 0} {nor : NorOf N} {old new : View N nor} (slots : List FdSlo
       (λ none. call.framed.untouched fresh none)
       (λ e. absurd (let no : FsTight ≡ DeviceFault = refuses_same FsTight DeviceFault e in cc)) (λ d e. absurd (let no : FsTight ≡ Damaged d = refuses_same FsTight (Damaged d) e in cc))
       (λ look. absurd (let no : true ≡ false = look in cc))
+      (λ w e. absurd (let no : None ≡ Some w = e in cc)) (λ s here write other. absurd (other refl))
 
   -- the device failed, or a page read otherwise
   pub gc_broken : (why : StepErr) → Stepped stopped old new (Err why) packing → Goes nor old.geometry Collects old.nor.now new.nor.now slots slots new.wrote (Refuses (as_fs_err why))
   gc_broken why call =
       let means = step_stops why call.means in
       goes_by Collects (Refuses (as_fs_err why)) new.wrote
-      (gc_refused (as_fs_err why) slots new.wrote (step_among Collects why refl refl) (stop_name (as_fs_err why) means))
+      (gc_refused old.geometry (as_fs_err why) slots new.wrote (step_among Collects why refl refl) (stop_slots (as_fs_err why) means))
       (gc_cuts call)
-      (gc_trims call)
+      (gc_upkeep call)
       (λ s here no_fault whole. absurd (no_fault (ap (λ (w : StepErr). Refuses (as_fs_err w)) (call.ends here.tells here.tidy))))
       (λ s here is. record { packed = λ e. absurd (cc); stuck = λ e. absurd (never_tight why (refuses_same (as_fs_err why) FsTight e)) })
       (λ s here corner tight. absurd (no_corner old.geometry (nor.bytes old.nor.now) s corner))
@@ -142,3 +157,4 @@ module _ {N : Type 0} {nor : NorOf N} {old new : View N nor} (slots : List FdSlo
       let is = refuses_same (as_fs_err why) (Damaged d) e in
       (stop_apart (as_fs_err why) d means is, λ s here. let no : Damaged d ≡ DeviceFault = sym is ∙ ap as_fs_err (call.ends here.tells here.tidy) in cc))
       (λ look. absurd (let no : true ≡ false = look in cc))
+      (λ w e. absurd (let no : None ≡ Some w = e in cc)) (λ s here write other. absurd (other refl))

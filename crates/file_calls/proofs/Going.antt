@@ -8,7 +8,7 @@ use Rattle.nor_core.specs.Count.{Rose}
 use Rattle.nor_core.specs.Device.{OnlyReads, Changes}
 use Rattle.nor_core.proofs.Cuts.{wider, read_after, unchanged}
 use Rattle.table_model.specs.declared.error.FsErr.{FsErr}
-use Rattle.table_model.specs.declared.error.FsErr.TheVariants.{BadName, NameTooLong, Tight, DeviceFault, Damaged}
+use Rattle.table_model.specs.declared.error.FsErr.TheVariants.{BadName, NameTooLong, BadFlags, BadDescriptor, OutOfDescriptors, NotReadable, NotWritable, Tight, DeviceFault, Damaged}
 use Rattle.table_model.specs.declared.error.Differ.{Differ}
 use Rattle.table_model.specs.Table.{File, Open, State}
 use Rattle.table_model.specs.Reply.{Answer, Gives, Refuses}
@@ -23,7 +23,8 @@ use Rattle.image_model.specs.Tables.{table_of}
 use Rattle.image_model.specs.Tidy.{IsTidy, HasReserve}
 use Rattle.std.specs.List.{Contains}
 use Rattle.image_model.specs.Sound.{IsSound}
-use Rattle.trim_laws.specs.Trim.{Trims}
+use Rattle.trim_laws.specs.Upkeep.{Upkeep}
+use Rattle.trim_laws.proofs.Wears.{upkeep_none}
 use Rattle.flash_view.specs.declared.kinds.StepErr.{StepErr}
 use Rattle.flash_view.specs.declared.kinds.StepErr.TheVariants.{DeviceFault as StepFault, Damaged as StepDamaged}
 use Rattle.flash_view.specs.declared.view.View.{View}
@@ -32,7 +33,8 @@ use Rattle.flash_view.specs.Steps.{Step, Errors, Stepped, as_fs_err, stopped}
 use Rattle.flash_view.proofs.Stepped.{after_look, fails_as}
 use Rattle.table_model.specs.Steps.{steps}
 use Rattle.table_model.specs.Window.{IsAmong}
-use Rattle.file_calls.specs.Replies.{is_of_name, is_of_descriptor, is_early, meets, may_meet, has_name, is_change, reads_file, keeps_slots, may_answer, names_fault, reply_of, is_calm}
+use Rattle.file_calls.specs.Replies.{is_of_name, is_of_slots, is_of_descriptor, is_early, meets, may_meet, may_show, has_name, is_change, is_write, reads_file, keeps_slots, may_answer, names_fault, reply_of, is_calm}
+use Rattle.file_calls.specs.Slots.{slots_fault, IsNumbered}
 use Rattle.file_calls.specs.Moves.{with_slots, Moves}
 use Rattle.fd_table.specs.declared.slot.FdSlot.{FdSlot}
 use Rattle.fd_table.specs.Slots.{descriptors}
@@ -46,8 +48,11 @@ use Rattle.image_model.specs.Tidy.{has_spare}
 use Rattle.room_laws.specs.Recovery.{Recovers}
 use Rattle.room_laws.proofs.Staying.{reserve_mends}
 use Rattle.file_calls.specs.States.{IsImageOf}
-use Rattle.file_calls.specs.Collecting.{MayStop, refusing}
-use Rattle.file_calls.specs.Goes.{CallCut, Reaches, IsDoable, IsCorner, StopsShort, StaysAt, IsCollected, IsNamed, IsGiven, Goes}
+use Rattle.file_calls.specs.Collecting.{MayStop, refusing, RoomCut}
+use Rattle.file_calls.specs.Cleans.{index_taken, CleansFor, Taken}
+use Rattle.file_calls.proofs.Numbered.{name_of_slots, names_barred, numbered_fine, numbered_refused}
+use Rattle.file_calls.specs.Goes.{CallCut, Reaches, IsDoable, IsCorner, StopsShort, StaysAt, IsCollected, IsGiven, Goes}
+use Rattle.file_calls.proofs.CleansBy.{cleans_as, cleans_reads, taken_as, taken_after}
 
 -- ---- the flat table
 
@@ -121,6 +126,10 @@ tidy_sound g image first tidy = record {
   damaged = λ id h. let none : Contains {X = ℕ} [] id = rw tidy.undamaged at h in absurd (omega (arith, none.1));
 }
 
+-- nothing is done to an image for pages
+pub room_stays : (g : Geometry) (image : List ℕ) → IsTidy g image → RoomCut g image image
+room_stays g image tidy = record { keeps = record { sound = tidy_sound g image image tidy; table = refl }; mends = λ reserve. reserve_mends g image reserve }
+
 -- an image that stays
 pub stays : (g : Geometry) (image : List ℕ) (s : State) (ask : Ask) → IsTidy g image → s.table ≡ table_of g image → CallCut g s ask image image
 unfolding settled_at
@@ -148,21 +157,32 @@ before_or_after g was image s ask reply files one same sound mends table = recor
 pub refuses_same : (v w : FsErr) → Refuses v ≡ Refuses w → v ≡ w
 refuses_same v w e = cc
 
--- no refusal of a name is met after the names are accepted, nor a page that reads otherwise before anything is written
-no_name : (why : FsErr) → is_of_name why ≡ true → (why ≡ DeviceFault → ⊥) × ((d : Differ) → why ≡ Damaged d → ⊥) × (why ≡ Tight → ⊥)
-no_name BadName e = (λ x. cc, λ d x. cc, λ x. cc)
-no_name NameTooLong e = (λ x. cc, λ d x. cc, λ x. cc)
-no_name _ e = absurd (let no : false ≡ true = e in cc)
+-- a refusal that needs no byte of the device is no fault, no page that reads otherwise, and no want of room
+no_slots : (why : FsErr) → is_of_slots why ≡ true → (why ≡ DeviceFault → ⊥) × ((d : Differ) → why ≡ Damaged d → ⊥) × (why ≡ Tight → ⊥)
+no_slots BadName e = (λ x. cc, λ d x. cc, λ x. cc)
+no_slots NameTooLong e = (λ x. cc, λ d x. cc, λ x. cc)
+no_slots BadFlags e = (λ x. cc, λ d x. cc, λ x. cc)
+no_slots BadDescriptor e = (λ x. cc, λ d x. cc, λ x. cc)
+no_slots OutOfDescriptors e = (λ x. cc, λ d x. cc, λ x. cc)
+no_slots NotReadable e = (λ x. cc, λ d x. cc, λ x. cc)
+no_slots NotWritable e = (λ x. cc, λ d x. cc, λ x. cc)
+no_slots _ e = absurd (let no : false ≡ true = e in cc)
 
+-- what a look meets is none of these, and no page that reads otherwise
 record IsEarly (why : FsErr) : Type 0 where
-  no_name : is_of_name why ≡ true → ⊥
+  no_slots : is_of_slots why ≡ true → ⊥
   undamaged : (d : Differ) → why ≡ Damaged d → ⊥
 
 early : (why : FsErr) → is_early why ≡ true → IsEarly why
 early BadName e = absurd (let no : false ≡ true = e in cc)
 early NameTooLong e = absurd (let no : false ≡ true = e in cc)
+early BadFlags e = absurd (let no : false ≡ true = e in cc)
+early BadDescriptor e = absurd (let no : false ≡ true = e in cc)
+early OutOfDescriptors e = absurd (let no : false ≡ true = e in cc)
+early NotReadable e = absurd (let no : false ≡ true = e in cc)
+early NotWritable e = absurd (let no : false ≡ true = e in cc)
 early (Damaged d) e = absurd (let no : false ≡ true = e in cc)
-early _ e = record { no_name = λ x. let no : false ≡ true = x in cc; undamaged = λ d x. cc }
+early _ e = record { no_slots = λ x. let no : false ≡ true = x in cc; undamaged = λ d x. cc }
 
 pub no_refusal : (reply : Answer) (why : FsErr) → is_refusal reply ≡ false → reply ≡ Refuses why → ⊥
 no_refusal reply why other e = let no : true ≡ false = sym (ap is_refusal e) ∙ other in cc
@@ -179,19 +199,6 @@ pub or_last : (a b : Bool) → b ≡ true → (a || b) ≡ true
 or_last true b e = refl
 or_last false b e = e
 
--- a name that is accepted is not what a call is refused for
-pub named_fine : (ask : Ask) (reply : Answer) (wrote : Bool) → names_fault ask ≡ None → ((why : FsErr) → is_of_name why ≡ true → reply ≡ Refuses why → ⊥) → IsNamed ask reply wrote
-named_fine ask reply wrote fine other = record {
-  refused = λ why is. absurd (let no : None ≡ Some why = sym fine ∙ is in cc);
-  only = λ why name is. absurd (other why name is);
-}
-
-pub named_refused : (ask : Ask) (why : FsErr) (wrote : Bool) → names_fault ask ≡ Some why → wrote ≡ false → IsNamed ask (Refuses why) wrote
-named_refused ask why wrote fault none = record {
-  refused = λ w is. (let same : why ≡ w = (let e : Some why ≡ Some w = sym fault ∙ is in cc) in ap (λ (x : FsErr). Refuses x) same, none);
-  only = λ w name is. (let same : why ≡ w = refuses_same why w is in fault ∙ ap (λ (x : FsErr). Some x) same);
-}
-
 -- ---- over a device
 
 -- the table of an image goes by its ids
@@ -202,10 +209,10 @@ pub names_by : (g : Geometry) (image : List ℕ) (s : State) → s.table ≡ tab
 names_by g image s same = subst NamesById (sym same) (table_names g image)
 
 -- what any answer is, whatever the device tells
-pub record IsFit (ask : Ask) (slots after : List FdSlot) (wrote : Bool) (reply : Answer) : Type 0 where
+pub record IsFit (g : Geometry) (ask : Ask) (slots after : List FdSlot) (wrote : Bool) (reply : Answer) : Type 0 where
   pub among : may_answer ask reply ≡ true
   pub brief : (bytes : List ℕ) → reply ≡ Gives bytes → IsGiven ask bytes
-  pub named : IsNamed ask reply wrote
+  pub numbered : IsNumbered g slots ask reply wrote
   pub still : is_refusal reply ≡ true → after ≡ slots
   pub keeps : keeps_slots ask ≡ true → after ≡ slots
 
@@ -217,8 +224,8 @@ module _ {D : Type 0} {nor : NorOf D} {g : Geometry} {slots : List FdSlot} where
   pub reads_cuts : {old new : D} (ask : Ask) → OnlyReads nor old new → Changes nor old new (λ was image. (s : State) → IsImageOf nor g old slots s → CallCut g s ask was image)
   reads_cuts {old} {new} ask reads = read_after (unchanged old (λ was image. (s : State) → IsImageOf nor g old slots s → CallCut g s ask was image) (λ tells s here. stays g (nor.bytes old) s ask here.tidy here.table)) reads
 
-  pub reads_trims : {old new : D} → OnlyReads nor old new → Changes nor old new (λ was image. (s : State) → IsImageOf nor g old slots s → Trims g was image)
-  reads_trims {old} {new} reads = read_after (unchanged old (λ was image. (s : State) → IsImageOf nor g old slots s → Trims g was image) (λ tells s here trim. trim)) reads
+  pub reads_upkeep : {old new : D} → OnlyReads nor old new → Changes nor old new (λ was image. (s : State) → IsImageOf nor g old slots s → Upkeep g was image)
+  reads_upkeep {old} {new} reads = read_after (unchanged old (λ was image. (s : State) → IsImageOf nor g old slots s → Upkeep g was image) (λ tells s here. upkeep_none g (nor.bytes old))) reads
 
   -- so the device is that of the state with other descriptors
   reads_image : {old new : D} (after : List FdSlot) (s : State) → OnlyReads nor old new → IsImageOf nor g old slots s → OpensFiles (with_slots (descriptors after) s) → IsImageOf nor g new after (with_slots (descriptors after) s)
@@ -241,14 +248,16 @@ module _ {D : Type 0} {nor : NorOf D} {g : Geometry} {slots : List FdSlot} where
   }
 
   -- what a call does, by its parts
-  pub goes_by : {old new : D} {after : List FdSlot} (ask : Ask) (reply : Answer) (wrote : Bool) → IsFit ask slots after wrote reply → Changes nor old new (λ was image. (s : State) → IsImageOf nor g old slots s → CallCut g s ask was image) →
-      Changes nor old new (λ was image. (s : State) → IsImageOf nor g old slots s → Trims g was image) → ((s : State) → IsImageOf nor g old slots s → (reply ≡ Refuses DeviceFault → ⊥) → (StopsShort g (nor.bytes old) s ask reply → ⊥) → Reaches nor g old new after s ask reply) → ((s : State) → IsImageOf nor g old slots s → ask ≡ Collects → IsCollected g reply (nor.bytes old) (nor.bytes new)) →
+  pub goes_by : {old new : D} {after : List FdSlot} (ask : Ask) (reply : Answer) (wrote : Bool) → IsFit g ask slots after wrote reply → Changes nor old new (λ was image. (s : State) → IsImageOf nor g old slots s → CallCut g s ask was image) →
+      Changes nor old new (λ was image. (s : State) → IsImageOf nor g old slots s → Upkeep g was image) → ((s : State) → IsImageOf nor g old slots s → (reply ≡ Refuses DeviceFault → ⊥) → (StopsShort g (nor.bytes old) s ask reply → ⊥) → Reaches nor g old new after s ask reply) → ((s : State) → IsImageOf nor g old slots s → ask ≡ Collects → IsCollected g reply (nor.bytes old) (nor.bytes new)) →
       ((s : State) → IsImageOf nor g old slots s → IsCorner g (nor.bytes old) s ask → reply ≡ Refuses Tight → StaysAt nor g new after s) → ((s : State) → IsImageOf nor g old slots s → wrote ≡ true → IsDoable g (nor.bytes old) s ask) → (wrote ≡ false → OnlyReads nor old new) → (reply ≡ Refuses DeviceFault → Rose (nor.faults old) (nor.faults new)) →
-      ((d : Differ) → reply ≡ Refuses (Damaged d) → (d.wanted ≢ d.found) × ((s : State) → IsImageOf nor g old slots s → ⊥)) → (is_change ask ≡ false → wrote ≡ false) → Goes nor g ask old new slots after wrote reply
-  goes_by ask reply wrote fit cuts trims answers collects cornered begun untouched cause differs looks = record {
+      ((d : Differ) → reply ≡ Refuses (Damaged d) → (d.wanted ≢ d.found) × ((s : State) → IsImageOf nor g old slots s → ⊥)) → (is_change ask ≡ false → wrote ≡ false) →
+      ((why : FsErr) → slots_fault g (descriptors slots) ask ≡ Some why → new ≡ old) →
+      ((s : State) → IsImageOf nor g old slots s → is_write ask ≡ false → (ask ≡ Collects → ⊥) → CleansFor nor g (index_taken ask) 0 old new (reply ≡ Refuses DeviceFault)) → Goes nor g ask old new slots after wrote reply
+  goes_by ask reply wrote fit cuts upkeep answers collects cornered begun untouched cause differs looks quiet cleans = record {
     does = record {
       cuts = cuts;
-      trims = trims;
+      upkeep = upkeep;
       collects = collects;
       cornered = cornered;
       begun = begun;
@@ -260,18 +269,20 @@ module _ {D : Type 0} {nor : NorOf D} {g : Geometry} {slots : List FdSlot} where
       undamaged = λ s here d e. (differs d e).1 s here;
       among = fit.among;
       brief = fit.brief;
-      named = fit.named;
+      numbered = fit.numbered;
       looks = looks;
+      cleans = cleans;
     };
     answers = answers;
+    quiet = quiet;
   }
 
   -- A call that only read, and was answered as the flat table is, which leaves the table.
-  goes_read : {old new : D} {after : List FdSlot} (ask : Ask) (reply : Answer) (wrote : Bool) → wrote ≡ false → OnlyReads nor old new → is_flat ask ≡ true → IsFit ask slots after wrote reply →
+  goes_read : {old new : D} {after : List FdSlot} (ask : Ask) (reply : Answer) (wrote : Bool) → wrote ≡ false → OnlyReads nor old new → is_flat ask ≡ true → IsFit g ask slots after wrote reply → ((why : FsErr) → slots_fault g (descriptors slots) ask ≡ Some why → new ≡ old) →
       ((s : State) → IsImageOf nor g old slots s → (reply ≡ Refuses DeviceFault → ⊥) → answer g (has_spare g (nor.bytes old)) s ask ≡ gives reply (with_slots (descriptors after) s)) →
       (reply ≡ Refuses DeviceFault → Rose (nor.faults old) (nor.faults new)) →
       ((d : Differ) → reply ≡ Refuses (Damaged d) → (d.wanted ≢ d.found) × ((s : State) → IsImageOf nor g old slots s → ⊥)) → Goes nor g ask old new slots after wrote reply
-  goes_read {old} {new} {after} ask reply wrote none reads flat fit is cause differs = goes_by ask reply wrote fit (reads_cuts ask reads) (reads_trims reads)
+  goes_read {old} {new} {after} ask reply wrote none reads flat fit quiet is cause differs = goes_by ask reply wrote fit (reads_cuts ask reads) (reads_upkeep reads)
       (λ s here no_fault whole. let e = is s here no_fault in record {
         reply_is = sym (ap (λ (o : Outcome). o.answer) e);
         holds = subst (λ (n : State). IsImageOf nor g new after n) (sym (ap (λ (o : Outcome). o.next) e))
@@ -284,26 +295,27 @@ module _ {D : Type 0} {nor : NorOf D} {g : Geometry} {slots : List FdSlot} where
       let told = is s here (λ fault. let no : Tight ≡ DeviceFault = refuses_same Tight DeviceFault (sym tight ∙ fault) in cc) in
       absurd (let no : true ≡ false = sym (ap (λ (o : Outcome). is_refusal o.answer) told ∙ ap is_refusal tight) ∙ corner.done in cc))
       (λ s here w. absurd (let no : true ≡ false = sym w ∙ none in cc))
-      (λ w. reads) cause differs (λ look. none)
+      (λ w. reads) cause differs (λ look. none) quiet (λ s here write other. cleans_reads (room_stays g (nor.bytes old) here.tidy) reads)
 
   -- a call that was answered with a look, and moved descriptors
-  pub goes_moved : {old new : D} {after : List FdSlot} (ask : Ask) (reply : Answer) (wrote : Bool) → wrote ≡ false → OnlyReads nor old new → is_flat ask ≡ true → names_fault ask ≡ None → is_refusal reply ≡ false → may_answer ask reply ≡ true →
+  pub goes_moved : {old new : D} {after : List FdSlot} (ask : Ask) (reply : Answer) (wrote : Bool) → wrote ≡ false → OnlyReads nor old new → is_flat ask ≡ true → slots_fault g (descriptors slots) ask ≡ None → is_refusal reply ≡ false → may_answer ask reply ≡ true →
       ((bytes : List ℕ) → reply ≡ Gives bytes → IsGiven ask bytes) → (keeps_slots ask ≡ true → after ≡ slots) →
       ((s : State) → IsImageOf nor g old slots s → answer g (has_spare g (nor.bytes old)) s ask ≡ gives reply (with_slots (descriptors after) s)) → Goes nor g ask old new slots after wrote reply
   goes_moved ask reply wrote none reads flat fine other may brief keeps is = goes_read ask reply wrote none reads flat
-      (record { among = may; brief = brief; named = named_fine ask reply wrote fine (λ why name e. no_refusal reply why other e); still = λ refusal. absurd (let no : true ≡ false = sym refusal ∙ other in cc); keeps = keeps })
+      (record { among = may; brief = brief; numbered = numbered_fine g slots ask reply wrote fine (λ why of e. no_refusal reply why other e); still = λ refusal. absurd (let no : true ≡ false = sym refusal ∙ other in cc); keeps = keeps })
+      (λ why e. absurd (let no : None ≡ Some why = sym fine ∙ e in cc))
       (λ s here no_fault. is s here)
       (λ e. absurd (no_refusal reply DeviceFault other e))
       (λ d e. absurd (no_refusal reply (Damaged d) other e))
 
   -- and left them
-  pub goes_shown : {old new : D} (ask : Ask) (reply : Answer) (wrote : Bool) → wrote ≡ false → OnlyReads nor old new → is_flat ask ≡ true → names_fault ask ≡ None → is_refusal reply ≡ false → may_answer ask reply ≡ true →
+  pub goes_shown : {old new : D} (ask : Ask) (reply : Answer) (wrote : Bool) → wrote ≡ false → OnlyReads nor old new → is_flat ask ≡ true → slots_fault g (descriptors slots) ask ≡ None → is_refusal reply ≡ false → may_answer ask reply ≡ true →
       ((bytes : List ℕ) → reply ≡ Gives bytes → IsGiven ask bytes) → ((s : State) → IsImageOf nor g old slots s → answer g (has_spare g (nor.bytes old)) s ask ≡ gives reply s) → Goes nor g ask old new slots slots wrote reply
   goes_shown ask reply wrote none reads flat fine other may brief is = goes_moved ask reply wrote none reads flat fine other may brief (λ k. refl)
       (λ s here. is s here ∙ ap (λ (n : State). gives reply n) (sym (same_slots s (descriptors slots) here.slots)))
 
-  -- A call with accepted names that was refused, or that met a fault, before it asked for a program or an erase.
-  pub goes_refused : {T : Type 0} {old new : D} (ask : Ask) (why : FsErr) (wrote : Bool) → wrote ≡ false → OnlyReads nor old new → is_flat ask ≡ true → names_fault ask ≡ None → may_meet ask why ≡ true →
+  -- A call with accepted arguments that was refused, or that met a fault, before it asked for a program or an erase.
+  pub goes_refused : {T : Type 0} {old new : D} (ask : Ask) (why : FsErr) (wrote : Bool) → wrote ≡ false → OnlyReads nor old new → is_flat ask ≡ true → slots_fault g (descriptors slots) ask ≡ None → may_meet ask why ≡ true →
       (IsErrOf {T = T} (Err why) DeviceFault → Rose (nor.faults old) (nor.faults new)) →
       ((s : State) → IsImageOf nor g old slots s → (why ≡ DeviceFault → ⊥) → answer g (has_spare g (nor.bytes old)) s ask ≡ refused why s) → Goes nor g ask old new slots slots wrote (Refuses why)
   goes_refused {T} {old} {new} ask why wrote none reads flat fine met cause is =
@@ -312,44 +324,55 @@ module _ {D : Type 0} {nor : NorOf D} {g : Geometry} {slots : List FdSlot} where
       (record {
         among = or_first (may_meet ask why) _ met;
         brief = λ bytes e. absurd (no_gift (Refuses why) bytes refl e);
-        named = named_fine ask (Refuses why) wrote fine (λ v name e. w.no_name (subst (λ (x : FsErr). is_of_name x ≡ true) (sym (refuses_same why v e)) name));
+        numbered = numbered_fine g slots ask (Refuses why) wrote fine (λ v of e. w.no_slots (subst (λ (x : FsErr). is_of_slots x ≡ true) (sym (refuses_same why v e)) of));
         still = λ refusal. refl;
         keeps = λ k. refl;
       })
+      (λ v e. absurd (let no : None ≡ Some v = sym fine ∙ e in cc))
       (λ s here no_fault. is s here (λ fault. no_fault (ap (λ (v : FsErr). Refuses v) fault)) ∙ ap (λ (n : State). gives (Refuses why) n) (sym (same_slots s (descriptors slots) here.slots)))
       (λ e. cause (ap (λ (v : FsErr). Err v) (refuses_same why DeviceFault e)))
       (λ d e. absurd (w.undamaged d (refuses_same why (Damaged d) e)))
 
   -- A look for a page of a file that found it not to be there: the device isn't one that stands at a state.
-  pub goes_missed : {old new : D} (ask : Ask) (d : Differ) (wrote : Bool) → wrote ≡ false → OnlyReads nor old new → is_flat ask ≡ true → names_fault ask ≡ None → (is_change ask || reads_file ask) ≡ true → d.wanted ≢ d.found →
+  pub goes_missed : {old new : D} (ask : Ask) (d : Differ) (wrote : Bool) → wrote ≡ false → OnlyReads nor old new → is_flat ask ≡ true → slots_fault g (descriptors slots) ask ≡ None → (is_change ask || reads_file ask) ≡ true → d.wanted ≢ d.found →
       ((s : State) → IsImageOf nor g old slots s → ⊥) → Goes nor g ask old new slots slots wrote (Refuses (Damaged d))
   goes_missed {old} {new} ask d wrote none reads flat fine reader apart never = goes_read ask (Refuses (Damaged d)) wrote none reads flat
       (record {
-        among = or_last (may_meet ask (Damaged d)) _ (or_last (has_name ask && is_of_name (Damaged d)) _ (both_true (is_change ask || reads_file ask) true reader refl));
+        among = or_last (may_meet ask (Damaged d)) _ (or_last (may_show ask (Damaged d)) _ (both_true (is_change ask || reads_file ask) true reader refl));
         brief = λ bytes e. absurd (no_gift (Refuses (Damaged d)) bytes refl e);
-        named = named_fine ask (Refuses (Damaged d)) wrote fine (λ v name e. (no_name v name).1 d (sym (refuses_same (Damaged d) v e)));
+        numbered = numbered_fine g slots ask (Refuses (Damaged d)) wrote fine (λ v of e. (no_slots v of).1 d (sym (refuses_same (Damaged d) v e)));
         still = λ refusal. refl;
         keeps = λ k. refl;
       })
+      (λ v e. absurd (let no : None ≡ Some v = sym fine ∙ e in cc))
       (λ s here no_fault. absurd (never s here))
       (λ e. absurd (let no : Damaged d ≡ DeviceFault = refuses_same (Damaged d) DeviceFault e in cc))
       (λ x e. let same : d ≡ x = (let f : Damaged d ≡ Damaged x = refuses_same (Damaged d) (Damaged x) e in cc) in (subst (λ (y : Differ). y.wanted ≢ y.found) same apart, never))
 
-  -- a call whose names are refused
-  pub goes_named : {d : D} (ask : Ask) (why : FsErr) (wrote : Bool) → wrote ≡ false → OnlyReads nor d d → is_flat ask ≡ true → has_name ask ≡ true → is_of_name why ≡ true → names_fault ask ≡ Some why → Goes nor g ask d d slots slots wrote (Refuses why)
-  goes_named {d} ask why wrote none reads flat takes name fault =
-      let no = no_name why name in
+  -- A call that its arguments or the descriptors refuse: it asks nothing of the device.
+  pub goes_barred : {d : D} (ask : Ask) (why : FsErr) (wrote : Bool) → wrote ≡ false → OnlyReads nor d d → is_flat ask ≡ true → may_answer ask (Refuses why) ≡ true → is_of_slots why ≡ true → slots_fault g (descriptors slots) ask ≡ Some why →
+      ((s : State) → IsImageOf nor g d slots s → answer g (has_spare g (nor.bytes d)) s ask ≡ refused why s) → Goes nor g ask d d slots slots wrote (Refuses why)
+  goes_barred {d} ask why wrote none reads flat may of fault is =
+      let no = no_slots why of in
       goes_read ask (Refuses why) wrote none reads flat
       (record {
-        among = or_last (may_meet ask why) _ (or_first (has_name ask && is_of_name why) _ (both_true (has_name ask) (is_of_name why) takes name));
+        among = may;
         brief = λ bytes e. absurd (no_gift (Refuses why) bytes refl e);
-        named = named_refused ask why wrote fault none;
+        numbered = numbered_refused g slots ask why wrote fault none;
         still = λ refusal. refl;
         keeps = λ k. refl;
       })
-      (λ s here no_fault. names_first g (has_spare g (nor.bytes d)) s ask why fault ∙ ap (λ (n : State). gives (Refuses why) n) (sym (same_slots s (descriptors slots) here.slots)))
+      (λ v e. refl)
+      (λ s here no_fault. is s here ∙ ap (λ (n : State). gives (Refuses why) n) (sym (same_slots s (descriptors slots) here.slots)))
       (λ e. absurd (no.0 (refuses_same why DeviceFault e)))
       (λ x e. absurd (no.1 x (refuses_same why (Damaged x) e)))
+
+  -- a call whose names are refused
+  pub goes_named : {d : D} (ask : Ask) (why : FsErr) (wrote : Bool) → wrote ≡ false → OnlyReads nor d d → is_flat ask ≡ true → has_name ask ≡ true → is_of_name why ≡ true → names_fault ask ≡ Some why → Goes nor g ask d d slots slots wrote (Refuses why)
+  goes_named {d} ask why wrote none reads flat takes name fault =
+      goes_barred ask why wrote none reads flat
+      (or_last (may_meet ask why) _ (or_first (may_show ask why) _ (or_first (has_name ask && is_of_name why) _ (both_true (has_name ask) (is_of_name why) takes name))))
+      (name_of_slots why name) (names_barred g (descriptors slots) ask why fault) (λ s here. names_first g (has_spare g (nor.bytes d)) s ask why fault)
 
 -- ---- calls that ask nothing of the device
 
@@ -363,41 +386,35 @@ calm_reply (Ok (Room info)) into e = refl
 calm_reply (Ok (Refusal why)) into e = refl
 calm_reply (Err why) into e = refl
 
--- such an answer is no fault, no damage, no bytes, and no refusal of a name
+-- such an answer is no fault, no damage and no bytes
 record IsCalm (reply : Answer) : Type 0 where
   fault : reply ≡ Refuses DeviceFault → ⊥
   damage : (d : Differ) → reply ≡ Refuses (Damaged d) → ⊥
-  name : (why : FsErr) → is_of_name why ≡ true → reply ≡ Refuses why → ⊥
   bytes : (bytes : List ℕ) → reply ≡ Gives bytes → ⊥
 
 calm_no : (reply : Answer) (why : FsErr) → is_of_descriptor why ≡ false → is_calm reply ≡ true → reply ≡ Refuses why → ⊥
 calm_no reply why other calm e = let no : true ≡ false = sym calm ∙ ap is_calm e ∙ other in cc
 
-name_no_slot : (why : FsErr) → is_of_name why ≡ true → is_of_descriptor why ≡ false
-name_no_slot BadName e = refl
-name_no_slot NameTooLong e = refl
-name_no_slot _ e = absurd (let no : false ≡ true = e in cc)
-
 is_calm_so : (reply : Answer) → is_calm reply ≡ true → IsCalm reply
 is_calm_so reply calm = record {
   fault = calm_no reply DeviceFault refl calm;
   damage = λ d. calm_no reply (Damaged d) refl calm;
-  name = λ why name. calm_no reply why (name_no_slot why name) calm;
   bytes = λ bytes e. let no : true ≡ false = sym calm ∙ ap is_calm e in cc;
 }
 
-pub goes_by_slots : {D : Type 0} {nor : NorOf D} {g : Geometry} {d : D} {slots after : List FdSlot} {result : Result Told FsErr} (ask : Ask) (into : List ℕ) (wrote : Bool) → Moves ask slots after result → wrote ≡ false → OnlyReads nor d d → is_flat ask ≡ true → names_fault ask ≡ None →
+pub goes_by_slots : {D : Type 0} {nor : NorOf D} {g : Geometry} {d : D} {slots after : List FdSlot} {result : Result Told FsErr} (ask : Ask) (into : List ℕ) (wrote : Bool) → Moves ask slots after result → wrote ≡ false → OnlyReads nor d d → is_flat ask ≡ true →
     (keeps_slots ask ≡ true → after ≡ slots) → Goes nor g ask d d slots after wrote (reply_of result into)
-goes_by_slots {D} {nor} {g} {d} {slots} {after} {result} ask into wrote moves none reads flat fine keeps =
+goes_by_slots {D} {nor} {g} {d} {slots} {after} {result} ask into wrote moves none reads flat keeps =
     let w = is_calm_so (reply_of result []) moves.calm in
     rw (calm_reply result into moves.calm) (goes_read ask (reply_of result []) wrote none reads flat
     (record {
       among = moves.among;
       brief = λ bytes e. absurd (w.bytes bytes e);
-      named = named_fine ask (reply_of result []) wrote fine w.name;
+      numbered = subst (λ (b : Bool). IsNumbered g slots ask (reply_of result []) b) (sym none) (moves.numbered g);
       still = moves.still;
       keeps = keeps;
     })
+    (λ v e. refl)
     (λ s here no_fault. moves.answers g (has_spare g (nor.bytes d)) s here.slots)
     (λ e. absurd (w.fault e))
     (λ x e. absurd (w.damage x e)))
@@ -442,12 +459,12 @@ pub record IsStep {D : Type 0} (nor : NorOf D) (g : Geometry) (slots : List FdSl
   pub done : (s : State) → IsImageOf nor g old slots s → (now : List ℕ) → step.done g (nor.bytes old) now tt → Makes g (nor.bytes old) s ask reply after now
   pub doable : (s : State) → IsImageOf nor g old slots s → IsDoable g (nor.bytes old) s ask
 
--- what a step of a call is refused with is no refusal of a name
-pub stop_name : (why : FsErr) → MayStop why → (w : FsErr) → is_of_name w ≡ true → Refuses why ≡ Refuses w → ⊥
-stop_name DeviceFault may w name e = (no_name w name).0 (sym (refuses_same DeviceFault w e))
-stop_name (Damaged d) may w name e = (no_name w name).1 d (sym (refuses_same (Damaged d) w e))
-stop_name Tight may w name e = (no_name w name).2 (sym (refuses_same Tight w e))
-stop_name _ may w name e = absurd may
+-- what a step of a call is refused with needed a look
+pub stop_slots : (why : FsErr) → MayStop why → (w : FsErr) → is_of_slots w ≡ true → Refuses why ≡ Refuses w → ⊥
+stop_slots DeviceFault may w of e = (no_slots w of).0 (sym (refuses_same DeviceFault w e))
+stop_slots (Damaged d) may w of e = (no_slots w of).1 d (sym (refuses_same (Damaged d) w e))
+stop_slots Tight may w of e = (no_slots w of).2 (sym (refuses_same Tight w e))
+stop_slots _ may w of e = absurd may
 
 -- a page that reads otherwise tells two tags that differ
 pub stop_apart : (why : FsErr) (d : Differ) → MayStop why → why ≡ Damaged d → d.wanted ≢ d.found
@@ -457,7 +474,7 @@ stop_apart why d may e = subst MayStop e may
 stop_among : (ask : Ask) (why : FsErr) → MayStop why → is_change ask ≡ true → may_answer ask (Refuses DeviceFault) ≡ true → may_answer ask (Refuses Tight) ≡ true → may_answer ask (Refuses why) ≡ true
 stop_among ask DeviceFault may change fault tight = fault
 stop_among ask (Damaged d) may change fault tight =
-    or_last (may_meet ask (Damaged d)) _ (or_last (has_name ask && is_of_name (Damaged d)) _ (both_true (is_change ask || reads_file ask) true (or_first (is_change ask) (reads_file ask) change) refl))
+    or_last (may_meet ask (Damaged d)) _ (or_last (may_show ask (Damaged d)) _ (both_true (is_change ask || reads_file ask) true (or_first (is_change ask) (reads_file ask) change) refl))
 stop_among ask Tight may change fault tight = tight
 stop_among ask _ may change fault tight = absurd may
 
@@ -473,31 +490,34 @@ fault_is (StepDamaged d) e = absurd (cc)
 pub step_among : (ask : Ask) (why : StepErr) → is_change ask ≡ true → may_answer ask (Refuses DeviceFault) ≡ true → may_answer ask (Refuses (as_fs_err why)) ≡ true
 step_among ask StepFault change fault = fault
 step_among ask (StepDamaged d) change fault =
-    or_last (may_meet ask (Damaged d)) _ (or_last (has_name ask && is_of_name (Damaged d)) _ (both_true (is_change ask || reads_file ask) true (or_first (is_change ask) (reads_file ask) change) refl))
+    or_last (may_meet ask (Damaged d)) _ (or_last (may_show ask (Damaged d)) _ (both_true (is_change ask || reads_file ask) true (or_first (is_change ask) (reads_file ask) change) refl))
 
 pub step_fails : {N : Type 0} {nor : NorOf N} {old new : View N nor} {step : Step (Unit {0})} {why : StepErr} → Stepped stopped old new (Err why) step → Stepped refusing old new (Err (as_fs_err why)) step
 step_fails {why = why} call = fails_as call (fault_is why) (λ e. ap as_fs_err e) (step_stops why call.means) (λ tells need. record { needs = need; cut = λ c cut. cut })
 
+-- the blocks that a call cleaned which is no write
+abbrev pub CleansIn : {N : Type 0} {nor : NorOf N} (old new : View N nor) (slots : List FdSlot) (ask : Ask) (reply : Answer) → Type 0
+CleansIn {nor = nor} old new slots ask reply = (s : State) → IsImageOf nor old.geometry old.nor.now slots s → is_write ask ≡ false → CleansFor nor old.geometry (index_taken ask) 0 old.nor.now new.nor.now (reply ≡ Refuses DeviceFault)
+
 -- a call that took its step after a look
-module _ {N : Type 0} {nor : NorOf N} {old mid new : View N nor} {slots : List FdSlot} {step : Step (Unit {0})} {moved : List (Option Open)} (ask : Ask) (reply : Answer) (flat : is_flat ask ≡ true) (change : is_change ask ≡ true) (fine : names_fault ask ≡ None)
+module _ {N : Type 0} {nor : NorOf N} {old mid new : View N nor} {slots : List FdSlot} {step : Step (Unit {0})} {moved : List (Option Open)} (ask : Ask) (reply : Answer) (flat : is_flat ask ≡ true) (change : is_change ask ≡ true) (fine : slots_fault old.geometry (descriptors slots) ask ≡ None)
     (does : IsStep nor old.geometry slots ask reply moved old.nor.now step) (looks : OnlyLooks old mid) (fresh : old.wrote ≡ false) where
   after : {E : Type 0} {errors : Errors E} {r : Result (Unit {0}) E} → Stepped errors mid new r step → Stepped errors old new r step
   after call = after_look looks call (λ tells need. record { needs = need; cut = λ c cut. cut; done = λ c ok done. done })
 
   -- the step was done
-  pub goes_done : (last : List FdSlot) → descriptors last ≡ moved → is_refusal reply ≡ false → may_answer ask reply ≡ true → ((bytes : List ℕ) → reply ≡ Gives bytes → ⊥) → (keeps_slots ask ≡ true → last ≡ slots) → Stepped stopped mid new (Ok tt) step → Goes nor old.geometry ask old.nor.now new.nor.now slots last new.wrote reply
-  goes_done last moves other may no_bytes keeps taken =
-      let call = after taken in
+  done_by : (last : List FdSlot) → descriptors last ≡ moved → is_refusal reply ≡ false → may_answer ask reply ≡ true → ((bytes : List ℕ) → reply ≡ Gives bytes → ⊥) → (keeps_slots ask ≡ true → last ≡ slots) → Stepped stopped old new (Ok tt) step → CleansIn old new slots ask reply → Goes nor old.geometry ask old.nor.now new.nor.now slots last new.wrote reply
+  done_by last moves other may no_bytes keeps call cleaned =
       goes_by ask reply new.wrote
       (record {
         among = may;
         brief = λ bytes e. absurd (no_bytes bytes e);
-        named = named_fine ask reply new.wrote fine (λ why name e. no_refusal reply why other e);
+        numbered = numbered_fine old.geometry slots ask reply new.wrote fine (λ why of e. no_refusal reply why other e);
         still = λ refusal. absurd (let no : true ≡ false = sym refusal ∙ other in cc);
         keeps = keeps;
       })
       (wider call.cuts (λ tells image cut s here. does.cut s here image (cut (does.can s here))))
-      (wider call.trims (λ tells image trim s here. trim (does.can s here)))
+      (wider call.upkeep (λ tells image kept s here. kept (does.can s here)))
       (λ s here no_fault whole.
       let made = does.done s here (nor.bytes new.nor.now) (call.ends here.tells (does.can s here)) in
       record {
@@ -512,19 +532,29 @@ module _ {N : Type 0} {nor : NorOf N} {old mid new : View N nor} {slots : List F
       (λ none. call.framed.untouched fresh none)
       (λ e. absurd (no_refusal reply DeviceFault other e))
       (λ d e. absurd (no_refusal reply (Damaged d) other e)) (λ look. absurd (let no : true ≡ false = sym change ∙ look in cc))
+      (λ why e. absurd (let no : None ≡ Some why = sym fine ∙ e in cc)) (λ s here write none. cleaned s here write)
+
+  pub goes_done : (last : List FdSlot) → descriptors last ≡ moved → is_refusal reply ≡ false → may_answer ask reply ≡ true → ((bytes : List ℕ) → reply ≡ Gives bytes → ⊥) → (keeps_slots ask ≡ true → last ≡ slots) → Taken stopped (index_taken ask) 0 mid new (Ok tt) step → Goes nor old.geometry ask old.nor.now new.nor.now slots last new.wrote reply
+  goes_done last moves other may no_bytes keeps taken =
+      let call = taken_after looks taken in
+      done_by last moves other may no_bytes keeps call.steps (λ s here write. cleans_as (λ e. absurd (let no : false ≡ true = e in cc)) (call.cleans here.tells (does.can s here)))
+
+  -- that of a write
+  pub goes_written : is_write ask ≡ true → (last : List FdSlot) → descriptors last ≡ moved → is_refusal reply ≡ false → may_answer ask reply ≡ true → ((bytes : List ℕ) → reply ≡ Gives bytes → ⊥) → (keeps_slots ask ≡ true → last ≡ slots) → Stepped stopped mid new (Ok tt) step → Goes nor old.geometry ask old.nor.now new.nor.now slots last new.wrote reply
+  goes_written is last moves other may no_bytes keeps taken = done_by last moves other may no_bytes keeps (after taken) (λ s here write. absurd (let no : true ≡ false = sym is ∙ write in cc))
 
   -- it was not
-  broken_by : (why : FsErr) → may_answer ask (Refuses why) ≡ true → Stepped refusing old new (Err why) step → Goes nor old.geometry ask old.nor.now new.nor.now slots slots new.wrote (Refuses why)
-  broken_by why may call = goes_by ask (Refuses why) new.wrote
+  broken_by : (why : FsErr) → may_answer ask (Refuses why) ≡ true → Stepped refusing old new (Err why) step → CleansIn old new slots ask (Refuses why) → Goes nor old.geometry ask old.nor.now new.nor.now slots slots new.wrote (Refuses why)
+  broken_by why may call cleaned = goes_by ask (Refuses why) new.wrote
       (record {
         among = may;
         brief = λ bytes e. absurd (no_gift (Refuses why) bytes refl e);
-        named = named_fine ask (Refuses why) new.wrote fine (stop_name why call.means);
+        numbered = numbered_fine old.geometry slots ask (Refuses why) new.wrote fine (stop_slots why call.means);
         still = λ refusal. refl;
         keeps = λ k. refl;
       })
       (wider call.cuts (λ tells image cut s here. does.cut s here image (cut (does.can s here))))
-      (wider call.trims (λ tells image trim s here. trim (does.can s here)))
+      (wider call.upkeep (λ tells image kept s here. kept (does.can s here)))
       (λ s here no_fault whole. absurd (no_fault (ap (λ (w : FsErr). Refuses w) (call.ends here.tells (does.can s here)))))
       (λ s here collects. absurd (not_collects ask flat collects))
       (λ s here corner tight. absurd (let no : Tight ≡ DeviceFault = sym (refuses_same why Tight tight) ∙ call.ends here.tells (does.can s here) in cc))
@@ -532,11 +562,19 @@ module _ {N : Type 0} {nor : NorOf N} {old mid new : View N nor} {slots : List F
       (λ none. call.framed.untouched fresh none)
       (λ e. call.cause (ap (λ (w : FsErr). Err w) (refuses_same why DeviceFault e)))
       (λ d e. let is = refuses_same why (Damaged d) e in (stop_apart why d call.means is, λ s here. let no : Damaged d ≡ DeviceFault = sym is ∙ call.ends here.tells (does.can s here) in cc)) (λ look. absurd (let no : true ≡ false = sym change ∙ look in cc))
+      (λ v e. absurd (let no : None ≡ Some v = sym fine ∙ e in cc)) (λ s here write none. cleaned s here write)
+
+  taken_broken : (why : FsErr) → may_answer ask (Refuses why) ≡ true → Taken refusing (index_taken ask) 0 old new (Err why) step → Goes nor old.geometry ask old.nor.now new.nor.now slots slots new.wrote (Refuses why)
+  taken_broken why may call = broken_by why may call.steps (λ s here write. cleans_as (λ e. ap (λ (w : FsErr). Refuses w) (call.steps.ends here.tells (does.can s here))) (call.cleans here.tells (does.can s here)))
 
   -- the device failed in the step, or a page read otherwise
-  pub goes_broken : (why : StepErr) → may_answer ask (Refuses DeviceFault) ≡ true → Stepped stopped mid new (Err why) step → Goes nor old.geometry ask old.nor.now new.nor.now slots slots new.wrote (Refuses (as_fs_err why))
-  goes_broken why may taken = broken_by (as_fs_err why) (step_among ask why change may) (after (step_fails taken))
+  pub goes_broken : (why : StepErr) → may_answer ask (Refuses DeviceFault) ≡ true → Taken stopped (index_taken ask) 0 mid new (Err why) step → Goes nor old.geometry ask old.nor.now new.nor.now slots slots new.wrote (Refuses (as_fs_err why))
+  goes_broken why may taken = taken_broken (as_fs_err why) (step_among ask why change may) (taken_after looks (taken_as taken (step_fails taken.steps) (λ tells need. need) (λ e. e)))
 
   -- .. or there was too little room
-  pub goes_stopped : (why : FsErr) → may_answer ask (Refuses DeviceFault) ≡ true → may_answer ask (Refuses Tight) ≡ true → Stepped refusing mid new (Err why) step → Goes nor old.geometry ask old.nor.now new.nor.now slots slots new.wrote (Refuses why)
-  goes_stopped why may tight taken = broken_by why (stop_among ask why taken.means change may tight) (after taken)
+  pub goes_stopped : (why : FsErr) → may_answer ask (Refuses DeviceFault) ≡ true → may_answer ask (Refuses Tight) ≡ true → Taken refusing (index_taken ask) 0 mid new (Err why) step → Goes nor old.geometry ask old.nor.now new.nor.now slots slots new.wrote (Refuses why)
+  goes_stopped why may tight taken = taken_broken why (stop_among ask why taken.steps.means change may tight) (taken_after looks taken)
+
+  -- .. in a write
+  pub goes_unwritten : is_write ask ≡ true → (why : FsErr) → may_answer ask (Refuses DeviceFault) ≡ true → may_answer ask (Refuses Tight) ≡ true → Stepped refusing mid new (Err why) step → Goes nor old.geometry ask old.nor.now new.nor.now slots slots new.wrote (Refuses why)
+  goes_unwritten is why may tight taken = broken_by why (stop_among ask why taken.means change may tight) (after taken) (λ s here write. absurd (let no : true ≡ false = sym is ∙ write in cc))

@@ -1,6 +1,8 @@
 pub mod Counting
 pub mod Living
 pub mod Recording
+pub mod Numbered
+pub mod CleansBy
 pub mod Going
 pub mod Paged
 pub mod GcCalls
@@ -14,6 +16,7 @@ pub mod Emptying
 pub mod Looked
 pub mod Descriptors
 pub mod Cutting
+pub mod Standing
 pub mod PartRoom
 pub mod WriteParts
 pub mod PartEnds

@@ -1,6 +1,6 @@
 -- The file that a remove takes out, and what it leaves.
 use Rattle.std.proofs.Common.{◌≡◌, ℕ, ◌==◌, List, [], ◌∷◌, Bool, true, refl, sym, ◌∙◌, ap, subst, arith}
-use Rattle.std.specs.Prelude.{Option, Some, None, is_some, map}
+use Rattle.std.specs.Prelude.{Option, Some, None, is_some, map, Result}
 use Rattle.std.specs.Option.{option_map}
 use Rattle.geometry.specs.declared.geometry.Geometry.{Geometry}
 use Rattle.nor_core.specs.declared.state.NorState.{Ghosts as NorOf}
@@ -22,15 +22,19 @@ use Rattle.image_model.specs.Places.{IsImage}
 use Rattle.image_model.specs.Tables.{table_of}
 use Rattle.image_model.specs.Tidy.{IsTidy}
 use Rattle.flash_view.specs.Found.{first_named}
+use Rattle.flash_view.specs.declared.view.View.{View}
+use Rattle.flash_view.specs.Steps.{Errors, Stepped}
 use Rattle.header_laws.proofs.Listed.{any-found}
 use Rattle.header_laws.proofs.HeadNames.{named}
 use Rattle.header_laws.proofs.Telling.{found-by_id}
 use Rattle.file_drop.specs.Removals.{CanRemove, removing}
 use Rattle.image_model.specs.Tidy.{has_spare}
 use Rattle.file_calls.specs.States.{IsImageOf}
+use Rattle.file_calls.specs.Cleans.{Taken}
 use Rattle.file_calls.specs.Removes.{id_named, IsMissing}
 use Rattle.room_laws.proofs.Staying.{reserve_mends}
-use Rattle.file_calls.proofs.Going.{IsOneStep, one_step, one_does, before_or_after, IsStep}
+use Rattle.file_calls.proofs.CleansBy.{untaken}
+use Rattle.file_calls.proofs.Going.{room_stays, IsOneStep, one_step, one_does, before_or_after, IsStep}
 
 -- ---- the file of a name
 
@@ -114,3 +118,7 @@ module _ {D : Type 0} {nor : NorOf D} {g : Geometry} {old : D} {slots : List FdS
         record { answer_is = o.answer_is; tidy = done.tidy; table = o.table_is ∙ sym done.table; slots = slots_by g (has_spare g (nor.bytes old)) s name id (descriptors slots) (file_named name s.table) fine refl (ap (id_named name) here.table ∙ found here.tells here.tidy) here.slots; reserve = λ reserve. let free = done.free in omega (arith, reserve, free) };
     doable = λ s here. one_does g (nor.bytes old) s (Removes name) Fine (drop_file id (table_of g (nor.bytes old))) refl (one g (nor.bytes old) s name id fine here.table (found here.tells here.tidy));
   }
+
+-- no page is taken for it
+pub removal_taken : {N E : Type 0} {nor : NorOf N} {errors : Errors E} {old new : View N nor} {r : Result (Unit {0}) E} {id : ℕ} → Stepped errors old new r (removing id) → Taken errors 0 0 old new r (removing id)
+removal_taken {old = old} call = untaken call (λ tells can. room_stays old.geometry _ can.tidy) (λ h was image cut reserve. let free = cut.free in omega (arith, reserve, free))

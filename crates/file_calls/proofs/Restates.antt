@@ -30,12 +30,14 @@ use Rattle.fd_table.specs.Slots.{descriptors, opened}
 use Rattle.page_renew.specs.declared.edits.Edit.{Edit}
 use Rattle.page_renew.specs.declared.edits.Edit.TheVariants.{Name, Meta}
 use Rattle.page_renew.specs.Restated.{restates, restated, restating}
+use Rattle.file_calls.specs.Cleans.{index_taken}
 use Rattle.file_calls.specs.Replies.{is_change, may_answer, may_meet, MeetsPage}
 use Rattle.file_calls.specs.States.{IsImageOf}
 use Rattle.file_calls.specs.Restatings.{is_restating, restated_as, IsRestating}
 use Rattle.file_calls.specs.Removes.{id_named}
 use Rattle.file_calls.specs.Refusals.{has_room_beside, page_lack}
 use Rattle.file_calls.proofs.Resizing.{has_at, resized_index, resized_data}
+use Rattle.file_calls.proofs.Numbered.{write_fine, metas_are, fmetas_are}
 use Rattle.file_calls.proofs.Going.{IsStep, is_flat}
 use Rattle.file_calls.proofs.Descriptors.{open_in, file_at}
 use Rattle.file_calls.proofs.Paged.{TakesPage, page_refuses, with_room, page_step}
@@ -139,12 +141,13 @@ pub record IsSort (ask : Ask) : Type 0 where
   pub done : may_answer ask Fine ≡ true
   pub fault : may_answer ask (Refuses DeviceFault) ≡ true
   pub tight : may_answer ask (Refuses Tight) ≡ true
+  pub taken : index_taken ask ≡ 1
   pub meets : (why : FsErr) → MeetsPage why → may_meet ask why ≡ true
 
 pub sort_is : (ask : Ask) → is_restating ask ≡ true → IsSort ask
-sort_is (Renames old_name new_name) e = record { flat = refl; change = refl; done = refl; fault = refl; tight = refl; meets = λ why may. (may old_name new_name 0 0 0).3 }
-sort_is (SetsMeta name meta) e = record { flat = refl; change = refl; done = refl; fault = refl; tight = refl; meets = λ why may. (may name meta 0 0 0).4 }
-sort_is (SetsMetaOpen fd meta) e = record { flat = refl; change = refl; done = refl; fault = refl; tight = refl; meets = λ why may. (may [] meta 0 fd 0).5 }
+sort_is (Renames old_name new_name) e = record { flat = refl; change = refl; done = refl; fault = refl; tight = refl; taken = refl; meets = λ why may. (may old_name new_name 0 0 0).3 }
+sort_is (SetsMeta name meta) e = record { flat = refl; change = refl; done = refl; fault = refl; tight = refl; taken = refl; meets = λ why may. (may name meta 0 0 0).4 }
+sort_is (SetsMetaOpen fd meta) e = record { flat = refl; change = refl; done = refl; fault = refl; tight = refl; taken = refl; meets = λ why may. (may [] meta 0 fd 0).5 }
 sort_is _ e = absurd (let no : false ≡ true = e in cc)
 
 one_step_of : (g : Geometry) (s : State) (ask : Ask) (files : List File) → is_restating ask ≡ true → done_steps g s ask files ≡ files ∷ []
@@ -246,7 +249,7 @@ module _ {D : Type 0} {nor : NorOf D} {g : Geometry} {old : D} {slots : List FdS
     pub meta_is : (name : List ℕ) (id : ℕ) → name_refusal name ≡ None → (nor.tells old → IsTidy g (nor.bytes old) → id_named name (table_of g (nor.bytes old)) ≡ Some id) → IsRestating nor g slots (SetsMeta name meta) edit id old
     meta_is name id fine found = record {
       sort = refl;
-      fine = fine;
+      fine = metas_are g (descriptors slots) name fine meta true (alike (length meta) g.meta like);
       kind = kind;
       there = λ s here. let w = named_there g (nor.bytes old) name id (found here.tells here.tidy) in (w.0, w.2);
       unused = λ s here f there. stays_named g (nor.bytes old) edit meta so id f here.tidy.undamaged there;
@@ -262,7 +265,7 @@ module _ {D : Type 0} {nor : NorOf D} {g : Geometry} {old : D} {slots : List FdS
     pub fmeta_is : (fd : ℕ) (slot : FdSlot) → open_at (descriptors slots) fd ≡ Some (opened slot) → may_write slot.flags ≡ true → IsRestating nor g slots (SetsMetaOpen fd meta) edit slot.id old
     fmeta_is fd slot held may = record {
       sort = refl;
-      fine = refl;
+      fine = fmetas_are g (descriptors slots) fd meta true (alike (length meta) g.meta like) ∙ write_fine (opened slot) held may;
       kind = kind;
       there = λ s here. let w = file_at fd slot held s here in (w.file, w.listed);
       unused = λ s here f there. stays_named g (nor.bytes old) edit meta so slot.id f here.tidy.undamaged there;

@@ -1,5 +1,5 @@
 -- A write, one part after another.
-use Rattle.std.proofs.Common.{◌≡◌, ℕ, ◌+◌, ◌-◌, ◌%◌, ◌<◌, ◌≤◌, ◌^◌, ⊎_elim, inl, inr, List, ◌∷◌, ◌++◌, length, take, drop, replicate, true, refl, sym, ◌∙◌, ap, subst, arith}
+use Rattle.std.proofs.Common.{◌≡◌, ℕ, ◌+◌, ◌-◌, ◌%◌, ◌<◌, ◌≤◌, ◌^◌, ⊎_elim, inl, inr, List, ◌∷◌, ◌++◌, length, take, drop, replicate, Bool, true, refl, sym, ◌∙◌, ap, subst, arith}
 use Rattle.std.specs.Prelude.{Some, None, Result, Ok, Err, slice_range}
 use Rattle.std.specs.Option.{option_map}
 use Rattle.std.proofs.lemmas.Bool.{cases_lt, cases_eq}
@@ -29,25 +29,28 @@ use Rattle.flash_view.proofs.Stepped.{stepped_then}
 use Rattle.file_calls.specs.Collecting.{MayStop, refusing}
 use Rattle.file_calls.specs.Recorded.{MayMiss, TellsRecord}
 use Rattle.file_calls.specs.Cuts.{JobCut}
-use Rattle.file_calls.specs.Writings.{CanWrite, CanWritePart, JobDone, WriteCut, writing_part}
+use Rattle.renew_laws.specs.Tails.{IsTailReady}
+use Rattle.file_calls.specs.Writings.{CanWrite, CanWritePart, WriteDone, WriteCut, writing_part}
 use Rattle.file_calls.proofs.Going.{is_first, tidy_sound}
 use Rattle.file_calls.proofs.Resizing.{put_again, written_size}
 use Rattle.file_calls.proofs.PartRoom.{less_room, few_bytes}
 
 -- ---- what is written so far
 
--- Of a write the bytes before a place are written.
-pub record WrittenTo (g : Geometry) (at e : ℕ) (bytes : List ℕ) (f : File) (was now : List ℕ) : Type 0 where
+-- Of a write the bytes before a place are written. The tail is ready where that is behind the old end, and where it was ready.
+pub record WrittenTo (g : Geometry) (id at e : ℕ) (bytes : List ℕ) (f : File) (was now : List ℕ) : Type 0 where
   pub tidy : IsTidy g now
   pub reserve : HasReserve g now
   pub table : table_of g now ≡ written_up_to at bytes f (table_of g was) e
   pub among : IsAmong (table_of g now) (table_of g was ∷ file_steps g at bytes f (table_of g was))
+  pub ready : length f.bytes < e → IsTailReady g now id
+  pub kept : IsTailReady g was id → IsTailReady g now id
 
 abbrev pub writing_to : (id at e : ℕ) → List ℕ → File → Step (Unit {0})
 writing_to id at e bytes f = record {
   needs = λ g was. CanWrite g was id at bytes f;
   cut = λ g was image. WriteCut g at bytes f was image;
-  done = λ g was now ok. WrittenTo g at e bytes f was now;
+  done = λ g was now ok. WrittenTo g id at e bytes f was now;
 }
 
 -- a step behind the first table
@@ -66,16 +69,24 @@ module _ (g : Geometry) (a : List ℕ) (id at : ℕ) (bytes : List ℕ) (f : Fil
   pub write_stays : WriteCut g at bytes f a a
   write_stays = record { sound = tidy_sound g a a can.tidy; table = is_first (table_of g a) (table_of g a) (file_steps g at bytes f (table_of g a)) refl; mends = λ reserve. reserve_mends g a reserve }
 
-  pub write_starts : WrittenTo g at at bytes f a a
+  pub write_starts : WrittenTo g id at at bytes f a a
   write_starts = record {
     tidy = can.tidy;
     reserve = can.reserve;
     table = sym (ap (λ (x : File). put_file x (table_of g a)) (written_none at bytes f) ∙ put_again g a id f can.tidy.undamaged can.there);
     among = is_first (table_of g a) (table_of g a) (file_steps g at bytes f (table_of g a)) refl;
+    ready = λ past. absurd (let from = can.from in omega (arith, past, from));
+    kept = λ ready. ready;
   }
 
-  pub write_ends : (e : ℕ) → e ≡ at + length bytes → (now : List ℕ) → WrittenTo g at e bytes f a now → JobDone g (put_file (written at bytes f) (table_of g a)) now
-  write_ends e is now done = record { tidy = done.tidy; table = done.table ∙ ap (written_up_to at bytes f (table_of g a)) is ∙ whole-table at bytes f (table_of g a); reserve = done.reserve }
+  pub write_ends : (e : ℕ) → e ≡ at + length bytes → (now : List ℕ) → WrittenTo g id at e bytes f a now → WriteDone g id at bytes f a now
+  write_ends e is now done = record {
+    tidy = done.tidy;
+    table = done.table ∙ ap (written_up_to at bytes f (table_of g a)) is ∙ whole-table at bytes f (table_of g a);
+    reserve = done.reserve;
+    ready = λ past. done.ready (omega (arith, is, past));
+    kept = λ ready. done.kept ready;
+  }
 
   -- so few bytes that a number of 32 bits tells where they end
   pub write_few : at + length bytes < 2 ^ 32
@@ -103,7 +114,8 @@ pub record IsPart (page size at len from to : ℕ) : Type 0 where
 pub is_part : (page size at len from to end : ℕ) → at ≤ from → end ≡ at + len → from < to → to ≤ end → from % page + (to - from) ≤ page → (from < size → to ≤ size) → ((start count : ℕ) → start ≤ from → end ≡ start + count → IsPartEnd page size start count to) → IsPart page size at len from to
 is_part page size at len from to end low end_is some within one_page old is_end = record { low = low; some = some; within = omega (arith, end_is, within); one_page = one_page; old = old; is_end = is_end at len low end_is }
 
-module _ (g : Geometry) (a mid : List ℕ) (id at from to : ℕ) (bytes : List ℕ) (f : File) (can : CanWrite g a id at bytes f) (part : IsPart (body g) (length f.bytes) at (length bytes) from to) (done : WrittenTo g at from bytes f a mid) where
+module _ (g : Geometry) (a mid : List ℕ) (id at from to : ℕ) (known : Bool) (bytes : List ℕ) (f : File) (can : CanWrite g a id at bytes f) (part : IsPart (body g) (length f.bytes) at (length bytes) from to) (done : WrittenTo g id at from bytes f a mid)
+    (sure : known ≡ true → length f.bytes < from) where
   abbrev bytes_of : List ℕ
   bytes_of = slice_range bytes (from - at) (to - at)
 
@@ -139,7 +151,7 @@ module _ (g : Geometry) (a mid : List ℕ) (id at from to : ℕ) (bytes : List �
       let is : f.id ≡ id = file_of-id id (table_of g a) f can.there in
       ap (λ (t : List File). file_of id t) done.table ∙ subst (λ (n : ℕ). file_of n (written_up_to at bytes f (table_of g a) from) ≡ Some (so_far at from bytes f)) is (file_of-put (so_far at from bytes f) (table_of g a))
 
-  can_part : CanWritePart g mid id from bytes_of (so_far at from bytes f)
+  can_part : CanWritePart g mid id known from bytes_of (so_far at from bytes f)
   can_part =
       let n = count in
       let long = long_before in
@@ -152,6 +164,7 @@ module _ (g : Geometry) (a mid : List ℕ) (id at from to : ℕ) (bytes : List �
             (λ (inner : from < length f.bytes). let within = old inner in let some = part.some in inl (omega (arith, n, long, within, some)))
             (λ (end : length f.bytes ≤ from). inr (omega (arith, long, end)))
             (cases_lt from (length f.bytes));
+        ready = λ is. done.ready (sure is);
       }
 
   after_among : IsAmong (written_up_to at bytes f (table_of g a) to) (table_of g a ∷ file_steps g at bytes f (table_of g a))
@@ -167,7 +180,7 @@ module _ (g : Geometry) (a mid : List ℕ) (id at from to : ℕ) (bytes : List �
     mends = λ reserve. cut.mends done.reserve;
   }
 
-  pub part_goes : Finishes g a mid (writing_part id from bytes_of (so_far at from bytes f)) (writing_to id at to bytes f)
+  pub part_goes : Finishes g a mid (writing_part id known from bytes_of (so_far at from bytes f)) (writing_to id at to bytes f)
   part_goes = record {
     needs = can_part;
     cut = part_cut;
@@ -176,30 +189,39 @@ module _ (g : Geometry) (a mid : List ℕ) (id at from to : ℕ) (bytes : List �
       reserve = now.reserve;
       table = now.table ∙ after_is;
       among = subst (λ (t : List File). IsAmong t (table_of g a ∷ file_steps g at bytes f (table_of g a))) (sym (now.table ∙ after_is)) after_among;
+      ready = λ past.
+          let n = count in
+          let long = long_before in
+          let some = part.some in
+          ⊎_elim
+          (λ (inner : from < length f.bytes). let within = part.old inner in absurd (omega (arith, within, past)))
+          (λ (end : length f.bytes ≤ from). now.ready (omega (arith, n, long, end, some)))
+          (cases_lt from (length f.bytes));
+      kept = λ ready. now.kept (done.kept ready);
     };
   }
 
 -- ---- over a device
 
-module _ {N : Type 0} {nor : NorOf N} {old mid new : View N nor} {r : Result (Unit {0}) FsErr} (id at from to size most : ℕ) (bytes : List ℕ) (f : File) where
+module _ {N : Type 0} {nor : NorOf N} {old mid new : View N nor} {r : Result (Unit {0}) FsErr} (id at from to size most : ℕ) (known : Bool) (bytes : List ℕ) (f : File) where
   -- a part that nothing allows, since no such write is allowed
   no_turn : (nor.tells old.nor.now → CanWrite old.geometry (nor.bytes old.nor.now) id at bytes f → ⊥) → Stepped refusing old mid (Ok tt) (writing_to id at from bytes f) →
-      ((e : File) → most ≡ length e.bytes → Stepped refusing mid new r (writing_part id from (slice_range bytes (from - at) (to - at)) e)) → Stepped refusing old new r (writing_to id at to bytes f)
+      ((e : File) → most ≡ length e.bytes → Stepped refusing mid new r (writing_part id known from (slice_range bytes (from - at) (to - at)) e)) → Stepped refusing old new r (writing_to id at to bytes f)
   no_turn never first next =
       let some : File = record f { bytes = replicate most 0 } in
       stepped_then first (next some (sym (length-replicate {A = ℕ} most 0))) (λ tells can. record { needs = can; cut = λ c cut. cut }) (λ tells can done. absurd (never tells can))
 
   -- a part more of a write
-  pub write_turn : IsPart (body mid.geometry) size at (length bytes) from to → most ≡ from + (size - from) → (nor.tells old.nor.now → CanWrite old.geometry (nor.bytes old.nor.now) id at bytes f → size ≡ length f.bytes) →
-      Stepped refusing old mid (Ok tt) (writing_to id at from bytes f) → ((e : File) → most ≡ length e.bytes → Stepped refusing mid new r (writing_part id from (slice_range bytes (from - at) (to - at)) e)) →
+  pub write_turn : IsPart (body mid.geometry) size at (length bytes) from to → most ≡ from + (size - from) → (nor.tells old.nor.now → CanWrite old.geometry (nor.bytes old.nor.now) id at bytes f → size ≡ length f.bytes) → (known ≡ true → size < from) →
+      Stepped refusing old mid (Ok tt) (writing_to id at from bytes f) → ((e : File) → most ≡ length e.bytes → Stepped refusing mid new r (writing_part id known from (slice_range bytes (from - at) (to - at)) e)) →
       Stepped refusing old new r (writing_to id at to bytes f)
-  write_turn part most_is told first next = ⊎_elim
+  write_turn part most_is told sure first next = ⊎_elim
       (λ (same : size ≡ length f.bytes). ⊎_elim
       (λ (past : length f.bytes < at). no_turn (λ tells can. let inside = can.from in omega (arith, inside, past)) first next)
       (λ (inside : at ≤ length f.bytes).
       let here : IsPart (body old.geometry) (length f.bytes) at (length bytes) from to = rw (first.framed.same.geometry, same) at part in
       let long = long_so_far at from bytes f inside part.low (let some = part.some in let within = part.within in omega (arith, some, within)) in
-      stepped_then first (next (so_far at from bytes f) (omega (arith, most_is, long, same))) (λ tells can. record { needs = can; cut = λ c cut. cut }) (λ tells can done. part_goes old.geometry (nor.bytes old.nor.now) (nor.bytes mid.nor.now) id at from to bytes f can here done))
+      stepped_then first (next (so_far at from bytes f) (omega (arith, most_is, long, same))) (λ tells can. record { needs = can; cut = λ c cut. cut }) (λ tells can done. part_goes old.geometry (nor.bytes old.nor.now) (nor.bytes mid.nor.now) id at from to known bytes f can here done (λ is. let past = sure is in omega (arith, past, same))))
       (cases_lt (length f.bytes) at))
       (λ (other : size ≡ length f.bytes → ⊥). no_turn (λ tells can. other (told tells can)) first next)
       (cases_eq size (length f.bytes))

@@ -28,7 +28,7 @@ use Rattle.flash_view.specs.Steps.{Step, Errors, Stepped, stopped, Begins, Finis
 use Rattle.flash_view.proofs.Stepped.{ends_as, weaker}
 use Rattle.file_calls.specs.Collecting.{RoomCut, CanTakePages, refusing, taking_pages}
 use Rattle.file_calls.specs.Cuts.{JobCut}
-use Rattle.file_calls.specs.Writings.{CanWritePart, JobDone, CanHaveTail, HasTail, writing_part, having_tail}
+use Rattle.file_calls.specs.Writings.{CanWritePart, JobDone, CanHaveTail, HasTail, CanNeedTail, writing_part, having_tail, needing_tail}
 use Rattle.file_calls.proofs.Going.{tidy_sound}
 use Rattle.file_calls.proofs.Resizing.{written_size}
 use Rattle.file_calls.proofs.PartRoom.{room_beside, room_behind, few_pages}
@@ -65,7 +65,7 @@ later_cut g after was mid image tidy table reserve cut = record {
 
 -- ---- bytes inside a file
 
-module _ (g : Geometry) (a : List ℕ) (id at : ℕ) (bytes : List ℕ) (f : File) (can : CanWritePart g a id at bytes f) where
+module _ (g : Geometry) (a : List ℕ) (id : ℕ) (known : Bool) (at : ℕ) (bytes : List ℕ) (f : File) (can : CanWritePart g a id known at bytes f) where
   room_inside : HasRoomFor g a 1 1
   room_inside = room_beside g a id f (written at bytes f) can.can.tidy.undamaged can.can.there refl can.can.room
       (let long = written_size at bytes f can.can.from in let from = can.can.from in omega (arith, long, from))
@@ -73,14 +73,20 @@ module _ (g : Geometry) (a : List ℕ) (id at : ℕ) (bytes : List ℕ) (f : Fil
   two_pages : CanTakePages g 1 1 a
   two_pages = record { tidy = can.can.tidy; reserve = can.can.reserve; room = room_inside }
 
-  pub overwrite_begins : Begins g a (taking_pages 1 1) (writing_part id at bytes f)
+  pub overwrite_begins : Begins g a (taking_pages 1 1) (writing_part id known at bytes f)
   overwrite_begins = record { needs = two_pages; cut = λ c cut. room_cut g (put_file (written at bytes f) (table_of g a)) a c cut }
 
-  pub overwrite_ends : at + length bytes ≤ length f.bytes → (mid : List ℕ) → MadeRoom g 1 1 a mid → Finishes g a mid (overwriting id at bytes f) (writing_part id at bytes f)
+  pub overwrite_ends : at + length bytes ≤ length f.bytes → (mid : List ℕ) → MadeRoom g 1 1 a mid → Finishes g a mid (overwriting id at bytes f) (writing_part id known at bytes f)
   overwrite_ends inside mid made = record {
     needs = record { tidy = made.tidy; there = rw made.table can.can.there; some = can.can.some; one_page = can.one_page; inside = inside; had = made.ready.had };
     cut = λ c cut. step_cut g (put_file (written at bytes f) (table_of g a)) a mid c made.tidy made.table made.ready.reserve (rw made.table at cut);
-    done = λ c ok done. record { tidy = done.tidy; table = rw made.table at done.table; reserve = done.reserve made.ready.reserve };
+    done = λ c ok done. record {
+      tidy = done.step.tidy;
+      table = rw made.table at done.step.table;
+      reserve = done.step.reserve made.ready.reserve;
+      ready = λ past. absurd (omega (arith, past, inside));
+      kept = λ ready. done.kept (made.tails id ready);
+    };
   }
 
 -- ---- the tail is made ready
@@ -102,6 +108,10 @@ module _ (g : Geometry) (a : List ℕ) (id : ℕ) (can : CanHaveTail g a id) whe
     done = λ c ok done. record { done = record { tidy = done.step.tidy; table = rw made.table at done.step.table; reserve = done.step.reserve made.ready.reserve }; ready = done.ready };
   }
 
+-- nothing is to be made ready where it is known to be
+pub known_ready : (g : Geometry) (a : List ℕ) (id : ℕ) (known : Bool) → CanNeedTail g a id known → known ≡ true → HasTail g id a a
+known_ready g a id known can is = tail_is_ready g a id can.can (can.ready is)
+
 -- no tail that is ready is told as another
 pub not_ready : {P A : Type 0} (b : Bool) → (b ≡ true) ↔ P → P → b ≡ false → A
 not_ready b told ready is = let bad : true ≡ false = sym (told.1 ready) ∙ is in absurd (cc)
@@ -114,9 +124,9 @@ pub record Prepared (g : Geometry) (id size : ℕ) (was now : List ℕ) : Type 0
   pub ready : IsTailReady g now id
   pub had : are_had g now (index_needed g size) 1 ≡ true
 
-abbrev pub preparing : (id at : ℕ) → List ℕ → File → Step (Unit {0})
-preparing id at bytes f = record {
-  needs = λ g was. CanWritePart g was id at bytes f;
+abbrev pub preparing : (id : ℕ) → Bool → (at : ℕ) → List ℕ → File → Step (Unit {0})
+preparing id known at bytes f = record {
+  needs = λ g was. CanWritePart g was id known at bytes f;
   cut = λ g was image. JobCut g (put_file (written at bytes f) (table_of g was)) was image;
   done = λ g was now ok. Prepared g id at was now;
 }
@@ -125,10 +135,10 @@ has_by : (id : ℕ) (files : List File) (f : File) → file_of id files ≡ Some
 unfolding has_id file_of
 has_by id files f there = any-found (λ (x : File). x.id == id) files ∙ ap is_some there
 
-module _ (g : Geometry) (a : List ℕ) (id at : ℕ) (bytes : List ℕ) (f : File) (can : CanWritePart g a id at bytes f) where
-  pub append_begins : Begins g a (having_tail id) (preparing id at bytes f)
+module _ (g : Geometry) (a : List ℕ) (id : ℕ) (known : Bool) (at : ℕ) (bytes : List ℕ) (f : File) (can : CanWritePart g a id known at bytes f) where
+  pub append_begins : Begins g a (needing_tail id known) (preparing id known at bytes f)
   append_begins = record {
-    needs = record { can = two_pages g a id at bytes f can; there = has_by id (table_of g a) f can.can.there };
+    needs = record { can = record { can = two_pages g a id known at bytes f can; there = has_by id (table_of g a) f can.can.there }; ready = can.ready };
     cut = λ c cut. still_cut g (put_file (written at bytes f) (table_of g a)) a c cut;
   }
 
@@ -138,7 +148,7 @@ module _ (g : Geometry) (a : List ℕ) (id at : ℕ) (bytes : List ℕ) (f : Fil
   room_for : at ≡ length f.bytes → HasRoomFor g a (index_needed g at) 1
   room_for end = rw end (room_behind g a id f (written at bytes f) can.can.tidy.undamaged can.can.there refl can.can.room (let long = behind end in let some = can.can.some in omega (arith, long, some)))
 
-  pub append_goes : at ≡ length f.bytes → (mid : List ℕ) → HasTail g id a mid → Finishes g a mid (taking_pages (index_needed g at) 1) (preparing id at bytes f)
+  pub append_goes : at ≡ length f.bytes → (mid : List ℕ) → HasTail g id a mid → Finishes g a mid (taking_pages (index_needed g at) 1) (preparing id known at bytes f)
   append_goes end mid tail = record {
     needs = record { tidy = tail.done.tidy; reserve = tail.done.reserve; room = rw tail.done.table (room_for end) };
     cut = λ c cut. later_cut g (put_file (written at bytes f) (table_of g a)) a mid c tail.done.tidy tail.done.table tail.done.reserve (room_cut g (put_file (written at bytes f) (table_of g a)) mid c cut);
@@ -152,7 +162,7 @@ module _ (g : Geometry) (a : List ℕ) (id at : ℕ) (bytes : List ℕ) (f : Fil
   few_after : at ≡ length f.bytes → data_pages g (length f.bytes + length bytes) ≤ usable g
   few_after end = subst (λ (n : ℕ). data_pages g n ≤ usable g) (behind end) (few_pages g (table_of g a) (written at bytes f) can.can.room)
 
-  pub append_ends : at ≡ length f.bytes → (mid : List ℕ) → Prepared g id at a mid → Finishes g a mid (appending id bytes f) (writing_part id at bytes f)
+  pub append_ends : at ≡ length f.bytes → (mid : List ℕ) → Prepared g id at a mid → Finishes g a mid (appending id bytes f) (writing_part id known at bytes f)
   append_ends end mid made = record {
     needs = record {
       tidy = made.done.tidy;
@@ -164,7 +174,13 @@ module _ (g : Geometry) (a : List ℕ) (id at : ℕ) (bytes : List ℕ) (f : Fil
       had = rw end at made.had;
     };
     cut = λ c cut. step_cut g (put_file (written at bytes f) (table_of g a)) a mid c made.done.tidy made.done.table made.done.reserve (rw (made.done.table, sym end) at cut);
-    done = λ c ok done. record { tidy = done.tidy; table = done.table ∙ rw (made.done.table, sym end) refl; reserve = done.reserve made.done.reserve };
+    done = λ c ok done. record {
+      tidy = done.step.tidy;
+      table = done.step.table ∙ rw (made.done.table, sym end) refl;
+      reserve = done.step.reserve made.done.reserve;
+      ready = λ past. done.ready;
+      kept = λ ready. done.ready;
+    };
   }
 
 -- ---- a part of a write
@@ -175,9 +191,9 @@ pub no_step : {N : Type 0} {nor : NorOf N} {E : Type 0} {errors : Errors E} {old
 no_step call never = weaker call (λ tells need. absurd (never tells need))
 
 -- bytes that begin inside a file end there where they are one part of a write
-pub part_inside : {N : Type 0} {nor : NorOf N} {old new : View N nor} {r : Result (Unit {0}) FsErr} (id at : ℕ) (bytes : List ℕ) (f : File) → at < length f.bytes →
-    ((e : File) → at + length bytes ≤ length e.bytes → Stepped refusing old new r (writing_part id at bytes e)) → Stepped refusing old new r (writing_part id at bytes f)
-part_inside id at bytes f low call = ⊎_elim
+pub part_inside : {N : Type 0} {nor : NorOf N} {old new : View N nor} {r : Result (Unit {0}) FsErr} (id : ℕ) (known : Bool) (at : ℕ) (bytes : List ℕ) (f : File) → at < length f.bytes →
+    ((e : File) → at + length bytes ≤ length e.bytes → Stepped refusing old new r (writing_part id known at bytes e)) → Stepped refusing old new r (writing_part id known at bytes f)
+part_inside id known at bytes f low call = ⊎_elim
     (λ (past : length f.bytes < at + length bytes).
     let some : File = record f { bytes = replicate (at + length bytes) 0 } in
     no_step (call some (let e = length-replicate {A = ℕ} (at + length bytes) 0 in omega (arith, e))) (λ tells can. ⊎_elim (λ (inside : at + length bytes ≤ length f.bytes). omega (arith, inside, past)) (λ (end : at ≡ length f.bytes). omega (arith, end, low)) can.inside))
@@ -185,9 +201,9 @@ part_inside id at bytes f low call = ⊎_elim
     (cases_lt (length f.bytes) (at + length bytes))
 
 -- and others begin at its end
-pub part_behind : {N : Type 0} {nor : NorOf N} {old new : View N nor} {r : Result (Unit {0}) FsErr} (id at size : ℕ) (bytes : List ℕ) (f : File) → size ≤ at → size ≡ length f.bytes →
-    Stepped refusing old new r (writing_part id size bytes f) → Stepped refusing old new r (writing_part id at bytes f)
-part_behind {nor = nor} {old = old} {new = new} {r = r} id at size bytes f high is call = ⊎_elim
+pub part_behind : {N : Type 0} {nor : NorOf N} {old new : View N nor} {r : Result (Unit {0}) FsErr} (id : ℕ) (known : Bool) (at size : ℕ) (bytes : List ℕ) (f : File) → size ≤ at → size ≡ length f.bytes →
+    Stepped refusing old new r (writing_part id known size bytes f) → Stepped refusing old new r (writing_part id known at bytes f)
+part_behind {nor = nor} {old = old} {new = new} {r = r} id known at size bytes f high is call = ⊎_elim
     (λ (past : size < at). no_step call (λ tells can. let from = can.can.from in omega (arith, from, past, is)))
-    (λ (within : at ≤ size). let same : size ≡ at = omega (arith, high, within) in subst (λ (n : ℕ). Stepped {nor = nor} refusing old new r (writing_part id n bytes f)) same call)
+    (λ (within : at ≤ size). let same : size ≡ at = omega (arith, high, within) in subst (λ (n : ℕ). Stepped {nor = nor} refusing old new r (writing_part id known n bytes f)) same call)
     (cases_lt size at)

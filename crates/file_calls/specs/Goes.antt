@@ -21,10 +21,13 @@ use Rattle.room_laws.specs.Recovery.{Recovers}
 use Rattle.image_model.specs.Collect.{chosen_block}
 use Rattle.block_gc.specs.RoomMade.{IsCompact, IsReady}
 use Rattle.fd_table.specs.declared.slot.FdSlot.{FdSlot}
-use Rattle.trim_laws.specs.Trim.{Trims}
-use Rattle.file_calls.specs.Replies.{is_of_name, names_fault, may_answer, is_change, keeps_slots}
+use Rattle.trim_laws.specs.Upkeep.{Upkeep}
+use Rattle.fd_table.specs.Slots.{descriptors}
+use Rattle.file_calls.specs.Replies.{may_answer, is_change, is_write, keeps_slots}
+use Rattle.file_calls.specs.Slots.{slots_fault, IsNumbered}
 use Rattle.file_calls.specs.States.{IsImageOf}
 use Rattle.file_calls.specs.Collecting.{IsStuckAt}
+use Rattle.file_calls.specs.Cleans.{index_taken, CleansFor}
 
 -- What a cut in a call may leave of a volume at a state, on which nothing waits: an image that is sound with respect to the one before,
 -- with the table of the state or of a step of the call. Where two blocks were free it recovers: an uncut check gives two.
@@ -74,11 +77,6 @@ pub record IsCollected (g : Geometry) (reply : Answer) (was now : List ℕ) : Ty
   pub packed : reply ≡ Fine → IsCompact g was now
   pub stuck : reply ≡ Refuses Tight → IsStuckAt g was now
 
--- a call is refused for its names exactly where these are none, and then before all else
-pub record IsNamed (ask : Ask) (reply : Answer) (wrote : Bool) : Type 0 where
-  pub refused : (why : FsErr) → names_fault ask ≡ Some why → (reply ≡ Refuses why) × (wrote ≡ false)
-  pub only : (why : FsErr) → is_of_name why ≡ true → reply ≡ Refuses why → names_fault ask ≡ Some why
-
 -- bytes that are given to a read, no more than it asks for
 pub record IsGiven (ask : Ask) (bytes : List ℕ) : Type 0 where
   pub fd : ℕ
@@ -90,8 +88,9 @@ pub record IsGiven (ask : Ask) (bytes : List ℕ) : Type 0 where
 -- erase was asked for.
 pub record Does {D : Type 0} (nor : NorOf D) (g : Geometry) (ask : Ask) (old new : D) (slots after : List FdSlot) (wrote : Bool) (reply : Answer) : Type 0 where
   pub cuts : Changes nor old new (λ was image. (s : State) → IsImageOf nor g old slots s → CallCut g s ask was image)
-  -- where no header page named a page behind the last one of its file, none does, at a cut and after the call
-  pub trims : Changes nor old new (λ was image. (s : State) → IsImageOf nor g old slots s → Trims g was image)
+  -- where no header page named a page behind the last one of its file, none does, at a cut and after the call; and no erase count changes but
+  -- by making blocks fresh, each with the next count
+  pub upkeep : Changes nor old new (λ was image. (s : State) → IsImageOf nor g old slots s → Upkeep g was image)
   pub collects : (s : State) → IsImageOf nor g old slots s → ask ≡ Collects → IsCollected g reply (nor.bytes old) (nor.bytes new)
   -- Tight for want of a page for a cut, the call has changed nothing but where pages stand
   pub cornered : (s : State) → IsImageOf nor g old slots s → IsCorner g (nor.bytes old) s ask → reply ≡ Refuses Tight → StaysAt nor g new after s
@@ -105,10 +104,21 @@ pub record Does {D : Type 0} (nor : NorOf D) (g : Geometry) (ask : Ask) (old new
   pub undamaged : (s : State) → IsImageOf nor g old slots s → (d : Differ) → reply ≡ Refuses (Damaged d) → ⊥
   pub among : may_answer ask reply ≡ true
   pub brief : (bytes : List ℕ) → reply ≡ Gives bytes → IsGiven ask bytes
-  pub named : IsNamed ask reply wrote
+  -- what the arguments and the descriptors show, whatever the device tells
+  pub numbered : IsNumbered g slots ask reply wrote
   pub looks : is_change ask ≡ false → wrote ≡ false
+  -- blocks are cleaned before all else, none where the index page is had that the call takes, and each where it isn't
+  pub cleans : (s : State) → IsImageOf nor g old slots s → is_write ask ≡ false → ask ≢ Collects →
+      CleansFor nor g (index_taken ask) 0 old new (reply ≡ Refuses DeviceFault)
 
--- What a call does that leaves no written bytes waiting: it is answered as the flat table is, where garbage collection isn't stuck.
+-- Where the table of block counts stood, it stands after a call on a volume at a state, unless the device failed.
+abbrev pub StandsOn : {D : Type 0} (nor : NorOf D) (g : Geometry) (old : D) (slots : List FdSlot) (reply : Answer) (stood stands : Bool) → Type 0
+StandsOn nor g old slots reply stood stands = (s : State) → IsImageOf nor g old slots s → ¬ (reply ≡ Refuses DeviceFault) → stood ≡ true → stands ≡ true
+
+-- What a call does that leaves no written bytes waiting: it is answered as the flat table is, where garbage collection isn't stuck; and
+-- refused for what its arguments and the descriptors show it asks nothing of the device, not even a read.
 pub record Goes {D : Type 0} (nor : NorOf D) (g : Geometry) (ask : Ask) (old new : D) (slots after : List FdSlot) (wrote : Bool) (reply : Answer) : Type 0 where
   pub does : Does nor g ask old new slots after wrote reply
-  pub answers : (s : State) → IsImageOf nor g old slots s → ¬ (reply ≡ Refuses DeviceFault) → ¬ StopsShort g (nor.bytes old) s ask reply → Reaches nor g old new after s ask reply
+  pub answers : (s : State) → IsImageOf nor g old slots s → ¬ (reply ≡ Refuses DeviceFault) → ¬ StopsShort g (nor.bytes old) s ask reply →
+      Reaches nor g old new after s ask reply
+  pub quiet : (why : FsErr) → slots_fault g (descriptors slots) ask ≡ Some why → new ≡ old

@@ -1,9 +1,11 @@
 pub mod Pages
 pub mod Refusals
 pub mod Replies
+pub mod Slots
 pub mod Moves
 pub mod States
 pub mod Collecting
+pub mod Cleans
 pub mod Goes
 pub mod Records
 pub mod Removes

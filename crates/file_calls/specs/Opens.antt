@@ -9,7 +9,8 @@ use Rattle.file_calls.specs.Removes.{id_named}
 -- the descriptor of an opening: the lowest closed one, where the flags are fine
 abbrev pub TakesSlot : (flags : ℕ) → List (Option Open) → Result ℕ FsErr → Type 0
 TakesSlot flags slots (Ok fd) = (is_bad_flags flags ≡ false) × (lowest_closed slots ≡ Some fd)
-TakesSlot flags slots (Err why) = ((why ≡ BadFlags) × (is_bad_flags flags ≡ true)) ⊎ ((why ≡ OutOfDescriptors) × (is_bad_flags flags ≡ false) × (lowest_closed slots ≡ None))
+TakesSlot flags slots (Err why) =
+    ((why ≡ BadFlags) × (is_bad_flags flags ≡ true)) ⊎ ((why ≡ OutOfDescriptors) × (is_bad_flags flags ≡ false) × (lowest_closed slots ≡ None))
 
 -- its file: one that is there, which isn't to be new, or none, which is to be made
 abbrev pub FindsOpened : (name : List ℕ) (flags : ℕ) → List File → Result (Option ℕ) FsErr → Type 0

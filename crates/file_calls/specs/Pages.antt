@@ -11,7 +11,8 @@ use Rattle.file_calls.specs.declared.room.PageCounts.{PageCounts}
 
 -- the counts with an index page more, of span 0 or not, and with a data page more
 abbrev pub one_index : PageCounts → ℕ → PageCounts
-one_index c span = if span == 0 then record { heads = c.heads + 1; index_pages = c.index_pages + 1; data_pages = c.data_pages } else record { heads = c.heads; index_pages = c.index_pages + 1; data_pages = c.data_pages }
+one_index c span = if span == 0 then record { heads = c.heads + 1; index_pages = c.index_pages + 1; data_pages = c.data_pages }
+    else record { heads = c.heads; index_pages = c.index_pages + 1; data_pages = c.data_pages }
 
 abbrev pub one_data : PageCounts → PageCounts
 one_data c = record { heads = c.heads; index_pages = c.index_pages; data_pages = c.data_pages + 1 }

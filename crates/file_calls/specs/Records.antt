@@ -7,4 +7,5 @@ use Rattle.image_model.specs.Headers.{name_of, size_of}
 
 -- the record of the file of an id, where its header page has a name (SPIFFS object index header)
 abbrev pub stat_in : Geometry → List ℕ → ℕ → Option Stat
-stat_in g page id = option_and_then (λ name. Some (record { id = id; kind = type_of page; size = size_of page; name = name; meta = meta_of g page })) (name_of page)
+stat_in g page id =
+    option_and_then (λ name. Some (record { id = id; kind = type_of page; size = size_of page; name = name; meta = meta_of g page })) (name_of page)

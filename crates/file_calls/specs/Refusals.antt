@@ -51,7 +51,8 @@ IsNewName name files (Err why) = ¬ (why ≡ DeviceFault) → (why ≡ Conflicti
 
 -- Why there is no new file of a name: a file has it, or none has it and something stands against a page.
 abbrev pub IsNotNew : Geometry → List ℕ → (name : List ℕ) → FsErr → Type 0
-IsNotNew g image name why = ((why ≡ ConflictingName) × (has_name name (table_of g image) ≡ true)) ⊎ ((has_name name (table_of g image) ≡ false) × (page_lack g image 1 ≡ Some why))
+IsNotNew g image name why = ((why ≡ ConflictingName) × (has_name name (table_of g image) ≡ true))
+    ⊎ ((has_name name (table_of g image) ≡ false) × (page_lack g image 1 ≡ Some why))
 
 -- the id of a new file of a name that no file has, or why there is none
 abbrev pub PreparesNamed : Geometry → List ℕ → (name : List ℕ) → Result ℕ FsErr → Type 0

@@ -1,7 +1,8 @@
 -- How a call may be answered at all, whatever the device tells.
 use Rattle.std.specs.Prelude.{◌≡◌, ◌≤◌, ℕ, List, length, take, Bool, true, false, not, nat_lt, ◌==◌, ◌&&◌, ◌||◌, Option, Some, None, Result, Ok, Err}
 use Rattle.table_model.specs.declared.error.FsErr.{FsErr}
-use Rattle.table_model.specs.declared.error.FsErr.TheVariants.{BadName, NameTooLong, BadFlags, BadDescriptor, OutOfDescriptors, NotFound, FileExists, ConflictingName, NotReadable, NotWritable, SeekBounds, Tight, Full, DeviceFault, Damaged}
+use Rattle.table_model.specs.declared.error.FsErr.TheVariants.{BadName, NameTooLong, BadFlags, BadDescriptor, OutOfDescriptors, NotFound, FileExists}
+use Rattle.table_model.specs.declared.error.FsErr.TheVariants.{ConflictingName, NotReadable, NotWritable, SeekBounds, Tight, Full, DeviceFault, Damaged}
 use Rattle.table_model.specs.declared.reply.Stat.{Stat}
 use Rattle.file_calls.specs.declared.told.Told.{Told}
 use Rattle.file_calls.specs.declared.told.Told.TheVariants.{Done, Number as AsNumber, Bytes, File as AsFile, NoMore, Room, Refusal}
@@ -10,7 +11,8 @@ use Rattle.table_model.specs.declared.call.Whence.TheVariants.{Set, Cur, End}
 use Rattle.table_model.specs.Descriptors.{empties, makes}
 use Rattle.table_model.specs.Names.{name_refusal, names_refusal}
 use Rattle.table_model.specs.Reply.{Answer, Fine, Tells as Number, Gives, Shows, Ends, Counts, Refuses}
-use Rattle.table_model.specs.Ask.{Ask, Creates, Opens, Reads, Writes, Fills, Seeks, Tells, Truncates, Flushes, Closes, Removes, RemovesOpen, Renames, Stats, StatsOpen, NextAbove, Informs, Collects, SetsMeta, SetsMetaOpen}
+use Rattle.table_model.specs.Ask.{Ask, Creates, Opens, Reads, Writes, Fills, Seeks, Tells, Truncates, Flushes, Closes, Removes, RemovesOpen, Renames, Stats}
+use Rattle.table_model.specs.Ask.{StatsOpen, NextAbove, Informs, Collects, SetsMeta, SetsMetaOpen}
 
 -- what a call told; bytes that were read stand at the front of those that were lent
 abbrev pub shown_by : Told → List ℕ → Answer
@@ -32,6 +34,17 @@ abbrev pub is_of_name : FsErr → Bool
 is_of_name BadName = true
 is_of_name NameTooLong = true
 is_of_name _ = false
+
+-- a refusal that needs no byte of the device: of a name, of flags or meta bytes, or of a descriptor
+abbrev pub is_of_slots : FsErr → Bool
+is_of_slots BadName = true
+is_of_slots NameTooLong = true
+is_of_slots BadFlags = true
+is_of_slots BadDescriptor = true
+is_of_slots OutOfDescriptors = true
+is_of_slots NotReadable = true
+is_of_slots NotWritable = true
+is_of_slots _ = false
 
 -- a page reads otherwise than it was written
 abbrev pub is_damage : FsErr → Bool
@@ -120,11 +133,11 @@ abbrev pub is_tight : FsErr → Bool
 is_tight Tight = true
 is_tight _ = false
 
--- a refusal that is met once the names are accepted, before a program or an erase is asked for
+-- a refusal that is met by a look at the device, before a program or an erase is asked for
 abbrev pub is_early : FsErr → Bool
-is_early why = not (is_of_name why) && not (is_damage why)
+is_early why = not (is_of_slots why) && not (is_damage why)
 
--- of these, the ones of each call
+-- what stands against each call once its names are accepted
 abbrev pub meets : Ask → FsErr → Bool
 meets (Creates name) why = is_of_new_file why || is_fault why
 meets (Opens name flags) why = is_of_opening why || is_fault why
@@ -147,17 +160,20 @@ meets Collects why = is_tight why || is_fault why
 meets (SetsMeta name meta) why = is_of_meta why || is_fault why
 meets (SetsMetaOpen fd meta) why = is_of_meta_open why || is_fault why
 
+-- of these, the ones that a look meets
 abbrev pub may_meet : Ask → FsErr → Bool
 may_meet ask why = is_early why && meets ask why
 
 -- calls that take a page may meet this
 abbrev pub MeetsPage : FsErr → Type 0
 MeetsPage why = (name other : List ℕ) (flags fd size : ℕ) →
-    (may_meet (Creates name) why ≡ true) × (may_meet (Opens name flags) why ≡ true) × (may_meet (Truncates fd size) why ≡ true) × (may_meet (Renames name other) why ≡ true) × (may_meet (SetsMeta name other) why ≡ true) × (may_meet (SetsMetaOpen fd other) why ≡ true)
+    (may_meet (Creates name) why ≡ true) × (may_meet (Opens name flags) why ≡ true) × (may_meet (Truncates fd size) why ≡ true)
+    × (may_meet (Renames name other) why ≡ true) × (may_meet (SetsMeta name other) why ≡ true) × (may_meet (SetsMetaOpen fd other) why ≡ true)
 
 -- calls by the name of a file that is there may
 abbrev pub MeetsNamed : List ℕ → FsErr → Type 0
-MeetsNamed name why = (other : List ℕ) → (may_meet (Removes name) why ≡ true) × (may_meet (Renames name other) why ≡ true) × (may_meet (SetsMeta name other) why ≡ true)
+MeetsNamed name why = (other : List ℕ) →
+    (may_meet (Removes name) why ≡ true) × (may_meet (Renames name other) why ≡ true) × (may_meet (SetsMeta name other) why ≡ true)
 
 -- and those that give a name
 abbrev pub MeetsKnown : List ℕ → FsErr → Type 0
@@ -214,9 +230,13 @@ has_name (Stats name) = true
 has_name (SetsMeta name meta) = true
 has_name _ = false
 
+-- .. and the ones that need no look, with those of a name
+abbrev pub may_show : Ask → FsErr → Bool
+may_show ask why = (has_name ask && is_of_name why) || (is_of_slots why && meets ask why)
+
 -- how a call may be refused
 abbrev pub may_refuse : Ask → FsErr → Bool
-may_refuse ask why = may_meet ask why || ((has_name ask && is_of_name why) || ((is_change ask || reads_file ask) && is_damage why))
+may_refuse ask why = may_meet ask why || (may_show ask why || ((is_change ask || reads_file ask) && is_damage why))
 
 -- how a call may be answered
 abbrev pub may_answer : Ask → Answer → Bool

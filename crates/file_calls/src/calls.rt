@@ -3,7 +3,7 @@ ghost use Rattle.geometry.specs.Numbers.{usable};
 ghost use Rattle.flash_view.specs.Same.{IsSameView};
 ghost use Rattle.table_model.specs.Ask.{asked};
 ghost use Rattle.file_calls.specs.Replies.{reply_of, is_write, HasRoomFor};
-ghost use Rattle.file_calls.specs.Goes.{Goes};
+ghost use Rattle.file_calls.specs.Goes.{Goes, StandsOn};
 
 use crate::Told;
 use crate::collecting::collect_in;
@@ -35,6 +35,7 @@ pub fn call_in<N: Nor>(
     requires no_write { is_write (asked call.now) ≡ false }
     ensures same { IsSameView v.old v.new }
     ensures goes { Goes N.NorState v.old.geometry (asked call.now) v.old.nor.now v.new.nor.now slots.old slots.new v.new.wrote (reply_of result into.new) }
+    ensures counted { StandsOn N.NorState v.old.geometry v.old.nor.now slots.old (reply_of result into.new) v.old.counted v.new.counted }
 {
     match *call {
         Call::Create { name } => create_in(v, name),

@@ -9,7 +9,7 @@ ghost use Rattle.image_model.specs.Tidy.{IsTidy};
 ghost use Rattle.fd_table.specs.declared.slot.FdSlot.{FdSlot};
 ghost use Rattle.file_calls.specs.Refusals.{page_lack, HasPage, Prepares, PreparesNamed, IsNewName};
 ghost use Rattle.file_calls.specs.Replies.{reply_of, may_meet, MeetsPage, MeetsKnown};
-ghost use Rattle.file_calls.specs.Goes.{Goes};
+ghost use Rattle.file_calls.specs.Goes.{Goes, StandsOn};
 
 use crate::Told;
 use crate::collecting::take_page;
@@ -30,7 +30,8 @@ pub(crate) fn refuse_known<N: Nor>(v: &mut View<'_, N>, name: &[u8]) -> Result<(
     ensures cause { IsErrOf result FsErr.DeviceFault → Rose (N.faults v.old.nor.now) (N.faults v.new.nor.now) }
     ensures looks { OnlyLooks v.old v.new }
     ensures among { IfErr result (MeetsKnown name.now) }
-    ensures told { N.tells v.old.nor.now → IsTidy v.old.geometry (N.bytes v.old.nor.now) → IsNewName name.now (table_of v.old.geometry (N.bytes v.old.nor.now)) result }
+    ensures told { N.tells v.old.nor.now → IsTidy v.old.geometry (N.bytes v.old.nor.now) →
+        IsNewName name.now (table_of v.old.geometry (N.bytes v.old.nor.now)) result }
 {
     names_are_told();
     match v.seek_name(name) {
@@ -48,7 +49,8 @@ fn obstacle<N: Nor>(v: &mut View<'_, N>, more: u32) -> Result<Option<FsErr>, Fai
     ensures looks { OnlyLooks v.old v.new }
     ensures no_fault { ¬ (result ≡ Ok (Some FsErr.DeviceFault)) }
     ensures among { IfOk result (λ found. IfSome found MeetsPage) }
-    ensures told { N.tells v.old.nor.now → IsTidy v.old.geometry (N.bytes v.old.nor.now) → IfOk result (λ why. why ≡ page_lack v.old.geometry (N.bytes v.old.nor.now) more) }
+    ensures told { N.tells v.old.nor.now → IsTidy v.old.geometry (N.bytes v.old.nor.now) →
+        IfOk result (λ why. why ≡ page_lack v.old.geometry (N.bytes v.old.nor.now) more) }
 {
     let live = live_pages(v)?;
     if live.free_blocks < 2 {
@@ -100,7 +102,8 @@ fn new_id<N: Nor>(v: &mut View<'_, N>, name: &[u8]) -> Result<u16, FsErr>
     ensures looks { OnlyLooks v.old v.new }
     ensures id { IfOk result (λ id. (1 ≤ id) × (id ≤ usable v.old.geometry)) }
     ensures among { IfErr result (λ why. may_meet (Creates name.now) why ≡ true) }
-    ensures told { N.tells v.old.nor.now → IsTidy v.old.geometry (N.bytes v.old.nor.now) → PreparesNamed v.old.geometry (N.bytes v.old.nor.now) name.now result }
+    ensures told { N.tells v.old.nor.now → IsTidy v.old.geometry (N.bytes v.old.nor.now) →
+        PreparesNamed v.old.geometry (N.bytes v.old.nor.now) name.now result }
 {
     names_are_told();
     ids_are_least();
@@ -123,7 +126,10 @@ pub(crate) fn create_in<N: Nor>(v: &mut View<'_, N>, name: &[u8]) -> Result<Told
     requires usable { usable v.old.geometry ≤ 32766 }
     requires fresh { v.old.wrote ≡ false }
     ensures same { IsSameView v.old v.new }
-    ensures goes { (slots : List FdSlot) (into : List ℕ) → Goes N.NorState v.old.geometry (Creates name.now) v.old.nor.now v.new.nor.now slots slots v.new.wrote (reply_of result into) }
+    ensures goes { (slots : List FdSlot) (into : List ℕ) →
+        Goes N.NorState v.old.geometry (Creates name.now) v.old.nor.now v.new.nor.now slots slots v.new.wrote (reply_of result into) }
+    ensures counted { (slots : List FdSlot) (into : List ℕ) →
+        StandsOn N.NorState v.old.geometry v.old.nor.now slots (reply_of result into) v.old.counted v.new.counted }
 {
     accept(name)?;
     let id = new_id(v, name)?;

@@ -3,7 +3,7 @@ ghost use Rattle.flash_view.specs.Same.{IsSameView};
 ghost use Rattle.table_model.specs.Ask.{Stats, NextAbove, Informs};
 ghost use Rattle.fd_table.specs.declared.slot.FdSlot.{FdSlot};
 ghost use Rattle.file_calls.specs.Replies.{reply_of};
-ghost use Rattle.file_calls.specs.Goes.{Goes};
+ghost use Rattle.file_calls.specs.Goes.{Goes, StandsOn};
 
 use crate::Told;
 use crate::names::accept;
@@ -17,7 +17,10 @@ use table_model::FsErr;
 pub(crate) fn tell_stat<N: Nor>(v: &mut View<'_, N>, name: &[u8]) -> Result<Told, FsErr>
     requires fresh { v.old.wrote ≡ false }
     ensures same { IsSameView v.old v.new }
-    ensures goes { (slots : List FdSlot) (into : List ℕ) → Goes N.NorState v.old.geometry (Stats name.now) v.old.nor.now v.new.nor.now slots slots v.new.wrote (reply_of result into) }
+    ensures goes { (slots : List FdSlot) (into : List ℕ) →
+        Goes N.NorState v.old.geometry (Stats name.now) v.old.nor.now v.new.nor.now slots slots v.new.wrote (reply_of result into) }
+    ensures counted { (slots : List FdSlot) (into : List ℕ) →
+        StandsOn N.NorState v.old.geometry v.old.nor.now slots (reply_of result into) v.old.counted v.new.counted }
 {
     accept(name)?;
     match stat_named(v, name) {
@@ -31,7 +34,10 @@ pub(crate) fn tell_stat<N: Nor>(v: &mut View<'_, N>, name: &[u8]) -> Result<Told
 pub(crate) fn tell_next<N: Nor>(v: &mut View<'_, N>, after: u16) -> Result<Told, FsErr>
     requires fresh { v.old.wrote ≡ false }
     ensures same { IsSameView v.old v.new }
-    ensures goes { (slots : List FdSlot) (into : List ℕ) → Goes N.NorState v.old.geometry (NextAbove after) v.old.nor.now v.new.nor.now slots slots v.new.wrote (reply_of result into) }
+    ensures goes { (slots : List FdSlot) (into : List ℕ) →
+        Goes N.NorState v.old.geometry (NextAbove after) v.old.nor.now v.new.nor.now slots slots v.new.wrote (reply_of result into) }
+    ensures counted { (slots : List FdSlot) (into : List ℕ) →
+        StandsOn N.NorState v.old.geometry v.old.nor.now slots (reply_of result into) v.old.counted v.new.counted }
 {
     match stat_above(v, after) {
         Err(Failed) => Err(FsErr::DeviceFault),
@@ -44,7 +50,10 @@ pub(crate) fn tell_next<N: Nor>(v: &mut View<'_, N>, after: u16) -> Result<Told,
 pub(crate) fn tell_info<N: Nor>(v: &mut View<'_, N>) -> Result<Told, FsErr>
     requires fresh { v.old.wrote ≡ false }
     ensures same { IsSameView v.old v.new }
-    ensures goes { (slots : List FdSlot) (into : List ℕ) → Goes N.NorState v.old.geometry Informs v.old.nor.now v.new.nor.now slots slots v.new.wrote (reply_of result into) }
+    ensures goes { (slots : List FdSlot) (into : List ℕ) →
+        Goes N.NorState v.old.geometry Informs v.old.nor.now v.new.nor.now slots slots v.new.wrote (reply_of result into) }
+    ensures counted { (slots : List FdSlot) (into : List ℕ) →
+        StandsOn N.NorState v.old.geometry v.old.nor.now slots (reply_of result into) v.old.counted v.new.counted }
 {
     match info_of_all(v) {
         Err(Failed) => Err(FsErr::DeviceFault),

@@ -9,8 +9,8 @@ ghost use Rattle.image_model.specs.Tables.{table_of};
 ghost use Rattle.image_model.specs.Tidy.{IsTidy};
 ghost use Rattle.fd_table.specs.Slots.{descriptors, put_at};
 ghost use Rattle.file_calls.specs.Opens.{TakesSlot, FindsOpened};
-ghost use Rattle.file_calls.specs.Replies.{reply_of, may_meet};
-ghost use Rattle.file_calls.specs.Goes.{Goes};
+ghost use Rattle.file_calls.specs.Replies.{reply_of, may_meet, may_refuse};
+ghost use Rattle.file_calls.specs.Goes.{Goes, StandsOn};
 
 use crate::Told;
 use crate::collecting::take_page;
@@ -46,8 +46,7 @@ fn is_bad_flags(flags: u32) -> bool
 fn take_slot(slots: &[FdSlot], flags: u32) -> Result<u16, FsErr>
     ensures within { IfOk result (λ fd. (0 < fd) × (fd ≤ length slots.now)) }
     ensures small { IfOk result (λ fd. fd < 65536) }
-    ensures calm { IfErr result (λ why. ¬ (why ≡ FsErr.DeviceFault)) }
-    ensures among { IfErr result (λ why. (name : List ℕ) → may_meet (Opens name flags) why ≡ true) }
+    ensures among { IfErr result (λ why. (name : List ℕ) → may_refuse (Opens name flags) why ≡ true) }
     ensures told { TakesSlot flags (descriptors slots.now) result }
 {
     if is_bad_flags(flags) {
@@ -65,7 +64,8 @@ fn find_opened<N: Nor>(v: &mut View<'_, N>, name: &[u8], flags: u32) -> Result<O
     ensures looks { OnlyLooks v.old v.new }
     ensures among { IfErr result (λ why. may_meet (Opens name.now flags) why ≡ true) }
     ensures making { IfOk result (λ found. found ≡ None → makes flags ≡ true) }
-    ensures told { N.tells v.old.nor.now → IsTidy v.old.geometry (N.bytes v.old.nor.now) → FindsOpened name.now flags (table_of v.old.geometry (N.bytes v.old.nor.now)) result }
+    ensures told { N.tells v.old.nor.now → IsTidy v.old.geometry (N.bytes v.old.nor.now) →
+        FindsOpened name.now flags (table_of v.old.geometry (N.bytes v.old.nor.now)) result }
 {
     match v.seek_name(name) {
         Err(Failed) => Err(FsErr::DeviceFault),
@@ -130,9 +130,12 @@ fn open_found<N: Nor>(
     requires within { (0 < fd) × (fd ≤ length slots.old) }
     requires named { name_refusal name.now ≡ None }
     requires slot { TakesSlot flags (descriptors slots.old) (Ok fd) }
-    requires found { N.tells v.old.nor.now → IsTidy v.old.geometry (N.bytes v.old.nor.now) → FindsOpened name.now flags (table_of v.old.geometry (N.bytes v.old.nor.now)) (Ok (Some id)) }
+    requires found { N.tells v.old.nor.now → IsTidy v.old.geometry (N.bytes v.old.nor.now) →
+        FindsOpened name.now flags (table_of v.old.geometry (N.bytes v.old.nor.now)) (Ok (Some id)) }
     ensures same { IsSameView v.old v.new }
-    ensures goes { (into : List ℕ) → Goes N.NorState v.old.geometry (Opens name.now flags) v.old.nor.now v.new.nor.now slots.old slots.new v.new.wrote (reply_of result into) }
+    ensures goes { (into : List ℕ) →
+        Goes N.NorState v.old.geometry (Opens name.now flags) v.old.nor.now v.new.nor.now slots.old slots.new v.new.wrote (reply_of result into) }
+    ensures counted { (into : List ℕ) → StandsOn N.NorState v.old.geometry v.old.nor.now slots.old (reply_of result into) v.old.counted v.new.counted }
 {
     if flags & TRUNC == 0 {
         open_at(slots, fd, id, flags);
@@ -166,7 +169,9 @@ pub(crate) fn open_in<N: Nor>(
     requires usable { usable v.old.geometry ≤ 32766 }
     requires fresh { v.old.wrote ≡ false }
     ensures same { IsSameView v.old v.new }
-    ensures goes { (into : List ℕ) → Goes N.NorState v.old.geometry (Opens name.now flags) v.old.nor.now v.new.nor.now slots.old slots.new v.new.wrote (reply_of result into) }
+    ensures goes { (into : List ℕ) →
+        Goes N.NorState v.old.geometry (Opens name.now flags) v.old.nor.now v.new.nor.now slots.old slots.new v.new.wrote (reply_of result into) }
+    ensures counted { (into : List ℕ) → StandsOn N.NorState v.old.geometry v.old.nor.now slots.old (reply_of result into) v.old.counted v.new.counted }
 {
     accept(name)?;
     let fd = take_slot(slots, flags)?;

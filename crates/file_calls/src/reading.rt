@@ -10,7 +10,7 @@ ghost use Rattle.file_read.specs.Whole.{IsFileOf, IsRead};
 ghost use Rattle.file_read.specs.Missing.{IsMissing, HoldsOrFault};
 ghost use Rattle.file_calls.specs.Replies.{reply_of, base_at};
 ghost use Rattle.file_calls.specs.Recorded.{TellsRecord, MayMiss};
-ghost use Rattle.file_calls.specs.Goes.{Goes};
+ghost use Rattle.file_calls.specs.Goes.{Goes, StandsOn};
 
 use crate::Told;
 use crate::records::stat_of_id;
@@ -27,7 +27,8 @@ pub fn record_of<N: Nor>(v: &mut View<'_, N>, id: u16) -> Result<Stat, FsErr>
     ensures cause { IsErrOf result FsErr.DeviceFault → Rose (N.faults v.old.nor.now) (N.faults v.new.nor.now) }
     ensures looks { OnlyLooks v.old v.new }
     ensures missed { IfErr result MayMiss }
-    ensures told { N.tells v.old.nor.now → IsTidy v.old.geometry (N.bytes v.old.nor.now) → TellsRecord id (table_of v.old.geometry (N.bytes v.old.nor.now)) result }
+    ensures told { N.tells v.old.nor.now → IsTidy v.old.geometry (N.bytes v.old.nor.now) →
+        TellsRecord id (table_of v.old.geometry (N.bytes v.old.nor.now)) result }
 {
     match stat_of_id(v, id) {
         Err(Failed) => Err(FsErr::DeviceFault),
@@ -45,7 +46,9 @@ pub(crate) fn tell_open<N: Nor>(
 ) -> Result<Told, FsErr>
     requires fresh { v.old.wrote ≡ false }
     ensures same { IsSameView v.old v.new }
-    ensures goes { (into : List ℕ) → Goes N.NorState v.old.geometry (StatsOpen fd) v.old.nor.now v.new.nor.now slots.now slots.now v.new.wrote (reply_of result into) }
+    ensures goes { (into : List ℕ) →
+        Goes N.NorState v.old.geometry (StatsOpen fd) v.old.nor.now v.new.nor.now slots.now slots.now v.new.wrote (reply_of result into) }
+    ensures counted { (into : List ℕ) → StandsOn N.NorState v.old.geometry v.old.nor.now slots.now (reply_of result into) v.old.counted v.new.counted }
 {
     let slot = opened(slots, fd)?;
     let stat = record_of(v, slot.id)?;
@@ -86,7 +89,9 @@ pub(crate) fn seek_in<N: Nor>(
 ) -> Result<Told, FsErr>
     requires fresh { v.old.wrote ≡ false }
     ensures same { IsSameView v.old v.new }
-    ensures goes { (into : List ℕ) → Goes N.NorState v.old.geometry (Seeks fd offset from) v.old.nor.now v.new.nor.now slots.old slots.new v.new.wrote (reply_of result into) }
+    ensures goes { (into : List ℕ) →
+        Goes N.NorState v.old.geometry (Seeks fd offset from) v.old.nor.now v.new.nor.now slots.old slots.new v.new.wrote (reply_of result into) }
+    ensures counted { (into : List ℕ) → StandsOn N.NorState v.old.geometry v.old.nor.now slots.old (reply_of result into) v.old.counted v.new.counted }
 {
     let slot = opened(slots, fd)?;
     let size = record_of(v, slot.id)?.size;
@@ -104,7 +109,8 @@ fn read_file<N: Nor>(v: &mut View<'_, N>, id: u16, at: u32, into: &mut [u8]) -> 
     ensures looks { OnlyLooks v.old v.new }
     ensures missing { IfErr result (IsMissing id) }
     ensures within { IfOk result (λ n. (n ≤ length into.old) × (at + n < 2 ^ 32)) }
-    ensures told { N.tells v.old.nor.now → IsTidy v.old.geometry (N.bytes v.old.nor.now) → (f : File) → IsFileOf v.old.geometry (N.bytes v.old.nor.now) id f → HoldsOrFault result (λ n. IsRead f at into.old into.new n) }
+    ensures told { N.tells v.old.nor.now → IsTidy v.old.geometry (N.bytes v.old.nor.now) → (f : File) → IsFileOf v.old.geometry (N.bytes v.old.nor.now) id f →
+        HoldsOrFault result (λ n. IsRead f at into.old into.new n) }
 {
     match v.seek_header(id)? {
         Some(header) => read_from(v, id, header, at, into),
@@ -125,6 +131,7 @@ pub(crate) fn read_in<N: Nor>(
     requires room { count ≤ length into.old }
     ensures same { IsSameView v.old v.new }
     ensures goes { Goes N.NorState v.old.geometry (Reads fd count) v.old.nor.now v.new.nor.now slots.old slots.new v.new.wrote (reply_of result into.new) }
+    ensures counted { StandsOn N.NorState v.old.geometry v.old.nor.now slots.old (reply_of result into.new) v.old.counted v.new.counted }
 {
     let slot = opened(slots, fd)?;
     if !slot.flags.may_read() {

@@ -40,7 +40,8 @@ fn stat_in(g: &Geometry, page: &[u8], id: u16) -> Option<Stat>
 pub(crate) fn stat_of_id<N: Nor>(v: &mut View<'_, N>, id: u16) -> Result<Option<Stat>, Failed>
     ensures cause { OnErr result (Rose (N.faults v.old.nor.now) (N.faults v.new.nor.now)) }
     ensures looks { OnlyLooks v.old v.new }
-    ensures told { N.tells v.old.nor.now → IsTidy v.old.geometry (N.bytes v.old.nor.now) → IfOk result (λ found. found ≡ option_map the_stat (file_of id (table_of v.old.geometry (N.bytes v.old.nor.now)))) }
+    ensures told { N.tells v.old.nor.now → IsTidy v.old.geometry (N.bytes v.old.nor.now) →
+        IfOk result (λ found. found ≡ option_map the_stat (file_of id (table_of v.old.geometry (N.bytes v.old.nor.now)))) }
 {
     let Some(page) = v.seek_header(id)? else {
         return Ok(None);
@@ -54,7 +55,8 @@ pub(crate) fn stat_of_id<N: Nor>(v: &mut View<'_, N>, id: u16) -> Result<Option<
 pub(crate) fn stat_named<N: Nor>(v: &mut View<'_, N>, name: &[u8]) -> Result<Option<Stat>, Failed>
     ensures cause { OnErr result (Rose (N.faults v.old.nor.now) (N.faults v.new.nor.now)) }
     ensures looks { OnlyLooks v.old v.new }
-    ensures told { N.tells v.old.nor.now → IsTidy v.old.geometry (N.bytes v.old.nor.now) → IfOk result (λ found. found ≡ option_map the_stat (file_named name.now (table_of v.old.geometry (N.bytes v.old.nor.now)))) }
+    ensures told { N.tells v.old.nor.now → IsTidy v.old.geometry (N.bytes v.old.nor.now) →
+        IfOk result (λ found. found ≡ option_map the_stat (file_named name.now (table_of v.old.geometry (N.bytes v.old.nor.now)))) }
 {
     match v.seek_name(name)? {
         Some(id) => stat_of_id(v, id),
@@ -67,7 +69,8 @@ pub(crate) fn stat_named<N: Nor>(v: &mut View<'_, N>, name: &[u8]) -> Result<Opt
 pub(crate) fn stat_above<N: Nor>(v: &mut View<'_, N>, after: u16) -> Result<Option<Stat>, Failed>
     ensures cause { OnErr result (Rose (N.faults v.old.nor.now) (N.faults v.new.nor.now)) }
     ensures looks { OnlyLooks v.old v.new }
-    ensures told { N.tells v.old.nor.now → IsTidy v.old.geometry (N.bytes v.old.nor.now) → IfOk result (λ found. found ≡ option_map the_stat (file_above after (table_of v.old.geometry (N.bytes v.old.nor.now)))) }
+    ensures told { N.tells v.old.nor.now → IsTidy v.old.geometry (N.bytes v.old.nor.now) →
+        IfOk result (λ found. found ≡ option_map the_stat (file_above after (table_of v.old.geometry (N.bytes v.old.nor.now)))) }
 {
     match v.next_id(after)? {
         Some(id) => stat_of_id(v, id),
@@ -80,7 +83,8 @@ pub(crate) fn info_of_all<N: Nor>(v: &mut View<'_, N>) -> Result<Info, Failed>
     requires { 2 ≤ v.old.geometry.blocks }
     ensures cause { OnErr result (Rose (N.faults v.old.nor.now) (N.faults v.new.nor.now)) }
     ensures looks { OnlyLooks v.old v.new }
-    ensures told { N.tells v.old.nor.now → IsTidy v.old.geometry (N.bytes v.old.nor.now) → IfOk result (λ info. info ≡ info_of v.old.geometry (table_of v.old.geometry (N.bytes v.old.nor.now))) }
+    ensures told { N.tells v.old.nor.now → IsTidy v.old.geometry (N.bytes v.old.nor.now) →
+        IfOk result (λ info. info ≡ info_of v.old.geometry (table_of v.old.geometry (N.bytes v.old.nor.now))) }
 {
     let counts = page_counts(v)?;
     let g = v.geometry;

@@ -6,7 +6,7 @@ ghost use Rattle.image_model.specs.Tables.{table_of};
 ghost use Rattle.image_model.specs.Tidy.{IsTidy};
 ghost use Rattle.file_calls.specs.Removes.{FindsNamed};
 ghost use Rattle.file_calls.specs.Replies.{reply_of, MeetsNamed};
-ghost use Rattle.file_calls.specs.Goes.{Goes};
+ghost use Rattle.file_calls.specs.Goes.{Goes, StandsOn};
 
 use crate::Told;
 use crate::names::accept;
@@ -23,7 +23,8 @@ pub(crate) fn find_named<N: Nor>(v: &mut View<'_, N>, name: &[u8]) -> Result<u16
     ensures cause { IsErrOf result FsErr.DeviceFault → Rose (N.faults v.old.nor.now) (N.faults v.new.nor.now) }
     ensures looks { OnlyLooks v.old v.new }
     ensures among { IfErr result (MeetsNamed name.now) }
-    ensures told { N.tells v.old.nor.now → IsTidy v.old.geometry (N.bytes v.old.nor.now) → FindsNamed name.now (table_of v.old.geometry (N.bytes v.old.nor.now)) result }
+    ensures told { N.tells v.old.nor.now → IsTidy v.old.geometry (N.bytes v.old.nor.now) →
+        FindsNamed name.now (table_of v.old.geometry (N.bytes v.old.nor.now)) result }
 {
     match v.seek_name(name) {
         Err(Failed) => Err(FsErr::DeviceFault),
@@ -41,7 +42,9 @@ pub(crate) fn remove_in<N: Nor>(
 ) -> Result<Told, FsErr>
     requires fresh { v.old.wrote ≡ false }
     ensures same { IsSameView v.old v.new }
-    ensures goes { (into : List ℕ) → Goes N.NorState v.old.geometry (Removes name.now) v.old.nor.now v.new.nor.now slots.old slots.new v.new.wrote (reply_of result into) }
+    ensures goes { (into : List ℕ) →
+        Goes N.NorState v.old.geometry (Removes name.now) v.old.nor.now v.new.nor.now slots.old slots.new v.new.wrote (reply_of result into) }
+    ensures counted { (into : List ℕ) → StandsOn N.NorState v.old.geometry v.old.nor.now slots.old (reply_of result into) v.old.counted v.new.counted }
 {
     accept(name)?;
     let id = find_named(v, name)?;
@@ -63,7 +66,9 @@ pub(crate) fn remove_open<N: Nor>(
 ) -> Result<Told, FsErr>
     requires fresh { v.old.wrote ≡ false }
     ensures same { IsSameView v.old v.new }
-    ensures goes { (into : List ℕ) → Goes N.NorState v.old.geometry (RemovesOpen fd) v.old.nor.now v.new.nor.now slots.old slots.new v.new.wrote (reply_of result into) }
+    ensures goes { (into : List ℕ) →
+        Goes N.NorState v.old.geometry (RemovesOpen fd) v.old.nor.now v.new.nor.now slots.old slots.new v.new.wrote (reply_of result into) }
+    ensures counted { (into : List ℕ) → StandsOn N.NorState v.old.geometry v.old.nor.now slots.old (reply_of result into) v.old.counted v.new.counted }
 {
     let slot = opened(slots, fd)?;
     match remove_step(v, slot.id) {

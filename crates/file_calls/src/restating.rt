@@ -5,7 +5,7 @@ ghost use Rattle.fd_table.specs.declared.slot.FdSlot.{FdSlot};
 ghost use Rattle.page_renew.specs.Edits.{IsEditable};
 ghost use Rattle.file_calls.specs.Replies.{reply_of};
 ghost use Rattle.file_calls.specs.Restatings.{IsRestating};
-ghost use Rattle.file_calls.specs.Goes.{Goes};
+ghost use Rattle.file_calls.specs.Goes.{Goes, StandsOn};
 
 use crate::Told;
 use crate::collecting::take_page;
@@ -38,7 +38,10 @@ fn restate_file<N: Nor>(v: &mut View<'_, N>, id: u16, edit: Edit<'_>) -> Result<
     requires edit { IsEditable v.old.geometry edit }
     requires fresh { v.old.wrote ≡ false }
     ensures same { IsSameView v.old v.new }
-    ensures goes { (ask : Ask) (slots : List FdSlot) (into : List ℕ) → IsRestating N.NorState v.old.geometry slots ask edit.entry id v.old.nor.now → Goes N.NorState v.old.geometry ask v.old.nor.now v.new.nor.now slots slots v.new.wrote (reply_of result into) }
+    ensures goes { (ask : Ask) (slots : List FdSlot) (into : List ℕ) → IsRestating N.NorState v.old.geometry slots ask edit.entry id v.old.nor.now →
+        Goes N.NorState v.old.geometry ask v.old.nor.now v.new.nor.now slots slots v.new.wrote (reply_of result into) }
+    ensures counted { (ask : Ask) (slots : List FdSlot) (into : List ℕ) → IsRestating N.NorState v.old.geometry slots ask edit.entry id v.old.nor.now →
+        StandsOn N.NorState v.old.geometry v.old.nor.now slots (reply_of result into) v.old.counted v.new.counted }
 {
     have_page(v, 0)?;
     take_page(v)?;
@@ -57,7 +60,10 @@ pub(crate) fn rename_in<N: Nor>(
 ) -> Result<Told, FsErr>
     requires fresh { v.old.wrote ≡ false }
     ensures same { IsSameView v.old v.new }
-    ensures goes { (slots : List FdSlot) (into : List ℕ) → Goes N.NorState v.old.geometry (Renames old_name.now new_name.now) v.old.nor.now v.new.nor.now slots slots v.new.wrote (reply_of result into) }
+    ensures goes { (slots : List FdSlot) (into : List ℕ) →
+        Goes N.NorState v.old.geometry (Renames old_name.now new_name.now) v.old.nor.now v.new.nor.now slots slots v.new.wrote (reply_of result into) }
+    ensures counted { (slots : List FdSlot) (into : List ℕ) →
+        StandsOn N.NorState v.old.geometry v.old.nor.now slots (reply_of result into) v.old.counted v.new.counted }
 {
     accept_both(old_name, new_name)?;
     let id = find_named(v, old_name)?;
@@ -70,7 +76,10 @@ pub(crate) fn rename_in<N: Nor>(
 pub(crate) fn set_meta<N: Nor>(v: &mut View<'_, N>, name: &[u8], meta: &[u8]) -> Result<Told, FsErr>
     requires fresh { v.old.wrote ≡ false }
     ensures same { IsSameView v.old v.new }
-    ensures goes { (slots : List FdSlot) (into : List ℕ) → Goes N.NorState v.old.geometry (SetsMeta name.now meta.now) v.old.nor.now v.new.nor.now slots slots v.new.wrote (reply_of result into) }
+    ensures goes { (slots : List FdSlot) (into : List ℕ) →
+        Goes N.NorState v.old.geometry (SetsMeta name.now meta.now) v.old.nor.now v.new.nor.now slots slots v.new.wrote (reply_of result into) }
+    ensures counted { (slots : List FdSlot) (into : List ℕ) →
+        StandsOn N.NorState v.old.geometry v.old.nor.now slots (reply_of result into) v.old.counted v.new.counted }
 {
     accept(name)?;
     accept_meta(&v.geometry, meta)?;
@@ -88,7 +97,9 @@ pub(crate) fn set_meta_open<N: Nor>(
 ) -> Result<Told, FsErr>
     requires fresh { v.old.wrote ≡ false }
     ensures same { IsSameView v.old v.new }
-    ensures goes { (into : List ℕ) → Goes N.NorState v.old.geometry (SetsMetaOpen fd meta.now) v.old.nor.now v.new.nor.now slots.now slots.now v.new.wrote (reply_of result into) }
+    ensures goes { (into : List ℕ) →
+        Goes N.NorState v.old.geometry (SetsMetaOpen fd meta.now) v.old.nor.now v.new.nor.now slots.now slots.now v.new.wrote (reply_of result into) }
+    ensures counted { (into : List ℕ) → StandsOn N.NorState v.old.geometry v.old.nor.now slots.now (reply_of result into) v.old.counted v.new.counted }
 {
     accept_meta(&v.geometry, meta)?;
     let slot = opened(slots, fd)?;

@@ -93,7 +93,8 @@ fn has_room_for<N: Nor>(v: &View<'_, N>, live: &LivePages, from: u32, to: u32) -
     requires index { live.now.index_pages ≤ 65535 }
     requires pages { live.now.data_pages ≤ 65535 }
     ensures { N.tells v.now.nor.now → IsTidy v.now.geometry (N.bytes v.now.nor.now) → AreSums v.now.geometry (N.bytes v.now.nor.now) live.now →
-        (f new : File) → IsResized (table_of v.now.geometry (N.bytes v.now.nor.now)) from to f new → result ≡ the_room v.now.geometry (put_file new (table_of v.now.geometry (N.bytes v.now.nor.now))) }
+        (f new : File) → IsResized (table_of v.now.geometry (N.bytes v.now.nor.now)) from to f new →
+        result ≡ the_room v.now.geometry (put_file new (table_of v.now.geometry (N.bytes v.now.nor.now))) }
 {
     tidy_counts();
     let g = v.geometry;
@@ -113,7 +114,8 @@ fn obstacle_for<N: Nor>(v: &mut View<'_, N>, from: u32, to: u64) -> Result<Optio
     ensures among { IfOk result (λ found. IfSome found MeetsPage) }
     ensures small { result ≡ Ok None → to < 0xFFFFFFFF }
     ensures told { N.tells v.old.nor.now → IsTidy v.old.geometry (N.bytes v.old.nor.now) →
-        (f new : File) → IsResized (table_of v.old.geometry (N.bytes v.old.nor.now)) from to f new → IfOk result (λ why. why ≡ page_refusal v.old.geometry (has_spare v.old.geometry (N.bytes v.old.nor.now)) (put_file new (table_of v.old.geometry (N.bytes v.old.nor.now)))) }
+        (f new : File) → IsResized (table_of v.old.geometry (N.bytes v.old.nor.now)) from to f new → IfOk result (λ why. why
+        ≡ page_refusal v.old.geometry (has_spare v.old.geometry (N.bytes v.old.nor.now)) (put_file new (table_of v.old.geometry (N.bytes v.old.nor.now)))) }
 {
     let live = live_pages(v)?;
     if live.free_blocks < 2 {
@@ -133,7 +135,8 @@ pub fn have_room<N: Nor>(v: &mut View<'_, N>, from: u32, to: u64) -> Result<(), 
     ensures among { IfErr result MeetsPage }
     ensures small { OnOk result (to < 0xFFFFFFFF) }
     ensures told { N.tells v.old.nor.now → IsTidy v.old.geometry (N.bytes v.old.nor.now) →
-        (f new : File) → IsResized (table_of v.old.geometry (N.bytes v.old.nor.now)) from to f new → HasRoomAfter v.old.geometry (N.bytes v.old.nor.now) (put_file new (table_of v.old.geometry (N.bytes v.old.nor.now))) result }
+        (f new : File) → IsResized (table_of v.old.geometry (N.bytes v.old.nor.now)) from to f new →
+        HasRoomAfter v.old.geometry (N.bytes v.old.nor.now) (put_file new (table_of v.old.geometry (N.bytes v.old.nor.now))) result }
 {
     match obstacle_for(v, from, to) {
         Err(Failed) => Err(FsErr::DeviceFault),
@@ -148,7 +151,8 @@ pub(crate) fn has_room<N: Nor>(v: &View<'_, N>, live: &LivePages, more: u32) -> 
     requires more { more ≤ 1 }
     requires index { live.now.index_pages ≤ 65535 }
     requires pages { live.now.data_pages ≤ 65535 }
-    ensures { N.tells v.now.nor.now → IsTidy v.now.geometry (N.bytes v.now.nor.now) → AreSums v.now.geometry (N.bytes v.now.nor.now) live.now → result ≡ has_room_beside v.now.geometry (table_of v.now.geometry (N.bytes v.now.nor.now)) more }
+    ensures { N.tells v.now.nor.now → IsTidy v.now.geometry (N.bytes v.now.nor.now) → AreSums v.now.geometry (N.bytes v.now.nor.now) live.now →
+        result ≡ has_room_beside v.now.geometry (table_of v.now.geometry (N.bytes v.now.nor.now)) more }
 {
     tidy_counts();
     leaves_two(&v.geometry, live.index_pages + more, live.data_pages)

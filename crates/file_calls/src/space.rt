@@ -37,7 +37,8 @@ fn with_block(space: Space, c: &BlockCounts, entries: u32) -> Space
 pub fn space_of<N: Nor>(v: &mut View<'_, N>) -> Result<Space, Failed>
     ensures cause { OnErr result (Rose (N.faults v.old.nor.now) (N.faults v.new.nor.now)) }
     ensures looks { OnlyLooks v.old v.new }
-    ensures told { N.tells v.old.nor.now → IsTidy v.old.geometry (N.bytes v.old.nor.now) → IfOk result (λ space. IsSpace v.old.geometry (N.bytes v.old.nor.now) space) }
+    ensures told { N.tells v.old.nor.now → IsTidy v.old.geometry (N.bytes v.old.nor.now) →
+        IfOk result (λ space. IsSpace v.old.geometry (N.bytes v.old.nor.now) space) }
 {
     if let Some(sums) = sums(v) {
         let live = u32::from(sums.index_live) + u32::from(sums.data_live);

@@ -2,10 +2,11 @@ ghost use Rattle.std.specs.Prelude.{◌≡◌, ◌<◌, ℕ, List, false};
 ghost use Rattle.table_model.specs.Table.{File};
 ghost use Rattle.table_model.specs.Ask.{Truncates};
 ghost use Rattle.flash_view.specs.Same.{IsSameView};
-ghost use Rattle.flash_view.specs.Steps.{Stepped, stopped};
+ghost use Rattle.flash_view.specs.Steps.{stopped};
+ghost use Rattle.file_calls.specs.Cleans.{Taken};
 ghost use Rattle.file_calls.specs.Cuts.{cutting};
 ghost use Rattle.file_calls.specs.Replies.{reply_of};
-ghost use Rattle.file_calls.specs.Goes.{Goes};
+ghost use Rattle.file_calls.specs.Goes.{Goes, StandsOn};
 
 use crate::Told;
 use crate::collecting::seek_page;
@@ -23,7 +24,7 @@ use table_model::FsErr;
 /// had no room before.
 pub(crate) fn cut_file<N: Nor>(v: &mut View<'_, N>, id: u16, size: u32) -> Result<bool, StepErr>
     requires { size < 0xFFFFFFFF }
-    ensures { (f : File) → Stepped stopped v.old v.new result (cutting id size f) }
+    ensures { (f : File) → Taken stopped 1 0 v.old v.new result (cutting id size f) }
 {
     match seek_page(v) {
         Err(why) => Err(why),
@@ -45,7 +46,9 @@ pub(crate) fn truncate_in<N: Nor>(
 ) -> Result<Told, FsErr>
     requires fresh { v.old.wrote ≡ false }
     ensures same { IsSameView v.old v.new }
-    ensures goes { (into : List ℕ) → Goes N.NorState v.old.geometry (Truncates fd size) v.old.nor.now v.new.nor.now slots.old slots.new v.new.wrote (reply_of result into) }
+    ensures goes { (into : List ℕ) →
+        Goes N.NorState v.old.geometry (Truncates fd size) v.old.nor.now v.new.nor.now slots.old slots.new v.new.wrote (reply_of result into) }
+    ensures counted { (into : List ℕ) → StandsOn N.NorState v.old.geometry v.old.nor.now slots.old (reply_of result into) v.old.counted v.new.counted }
 {
     let slot = opened(slots, fd)?;
     if !slot.flags.may_write() {

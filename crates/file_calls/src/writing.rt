@@ -1,5 +1,5 @@
 // Bytes written into a file: one page step for each part, and room made before each.
-ghost use Rattle.std.specs.Prelude.{◌≡◌, ◌≢◌, ◌+◌, ◌-◌, ◌%◌, ◌<◌, ◌≤◌, ◌^◌, ℕ, List, length, None, IfSome};
+ghost use Rattle.std.specs.Prelude.{◌≡◌, ◌≢◌, ◌+◌, ◌-◌, ◌%◌, ◌<◌, ◌≤◌, ◌^◌, ℕ, Bool, List, length, None, IfSome};
 ghost use Rattle.table_model.specs.Table.{File};
 ghost use Rattle.geometry.specs.Numbers.{body};
 ghost use Rattle.call_model.specs.Parts.{IsPartEnd};
@@ -8,7 +8,7 @@ ghost use Rattle.flash_view.specs.Steps.{Stepped};
 ghost use Rattle.file_calls.specs.Collecting.{refusing};
 ghost use Rattle.file_write.specs.Appends.{index_needed as the_index_needed};
 ghost use Rattle.file_write.specs.Readyings.{HasReadyTail};
-ghost use Rattle.file_calls.specs.Writings.{CanWrite, writing_part, writing, having_tail};
+ghost use Rattle.file_calls.specs.Writings.{CanWrite, writing_part, writing, having_tail, needing_tail};
 
 use crate::collecting::take_pages;
 use crate::reading::record_of;
@@ -22,7 +22,7 @@ use table_model::FsErr;
 
 // Overwrites bytes of a file inside one data page, once pages are had.
 fn overwrite_part<N: Nor>(v: &mut View<'_, N>, id: u16, at: u32, bytes: &[u8]) -> Result<(), FsErr>
-    ensures { (f : File) → at + length bytes.now ≤ length f.bytes → Stepped refusing v.old v.new result (writing_part id at bytes.now f) }
+    ensures { (known : Bool) (f : File) → at + length bytes.now ≤ length f.bytes → Stepped refusing v.old v.new result (writing_part id known at bytes.now f) }
 {
     take_pages(v, 1, 1)?;
     match overwrite_step(v, id, at, bytes) {
@@ -63,12 +63,29 @@ fn have_tail<N: Nor>(v: &mut View<'_, N>, id: u16) -> Result<(), FsErr>
     }
 }
 
-// Adds bytes at the end of a file of that size in bytes, inside one data page, once its tail is ready and pages are had.
-fn append_part<N: Nor>(v: &mut View<'_, N>, id: u16, size: u32, bytes: &[u8]) -> Result<(), FsErr>
-    ensures { (f : File) → size ≡ length f.bytes → Stepped refusing v.old v.new result (writing_part id size bytes.now f) }
+// The same, where it isn't known to be ready.
+fn need_tail<N: Nor>(v: &mut View<'_, N>, id: u16, known: bool) -> Result<(), FsErr>
+    ensures { Stepped refusing v.old v.new result (needing_tail id known) }
+{
+    if known {
+        return Ok(());
+    }
+    have_tail(v, id)
+}
+
+// Adds bytes at the end of a file of that size in bytes, inside one data page, once its tail is ready and pages are had. Whether
+// it is ready may be known.
+fn append_part<N: Nor>(
+    v: &mut View<'_, N>,
+    id: u16,
+    known: bool,
+    size: u32,
+    bytes: &[u8],
+) -> Result<(), FsErr>
+    ensures { (f : File) → size ≡ length f.bytes → Stepped refusing v.old v.new result (writing_part id known size bytes.now f) }
 {
     let g = v.geometry;
-    have_tail(v, id)?;
+    need_tail(v, id, known)?;
     take_pages(v, index_needed(&g, size), 1)?;
     match append_step(v, id, bytes) {
         Ok(()) => Ok(()),
@@ -76,20 +93,21 @@ fn append_part<N: Nor>(v: &mut View<'_, N>, id: u16, size: u32, bytes: &[u8]) ->
     }
 }
 
-// Writes one part of a write: inside a file of that size in bytes, or at its end.
+// Writes one part of a write: inside a file of that size in bytes, or at its end, where its tail may be known to be ready.
 fn write_part<N: Nor>(
     v: &mut View<'_, N>,
     id: u16,
+    known: bool,
     size: u32,
     at: u32,
     bytes: &[u8],
 ) -> Result<(), FsErr>
-    ensures { (f : File) → size ≡ length f.bytes → Stepped refusing v.old v.new result (writing_part id at bytes.now f) }
+    ensures { (f : File) → size ≡ length f.bytes → Stepped refusing v.old v.new result (writing_part id known at bytes.now f) }
 {
     if at < size {
         overwrite_part(v, id, at, bytes)
     } else {
-        append_part(v, id, size, bytes)
+        append_part(v, id, known, size, bytes)
     }
 }
 
@@ -120,7 +138,8 @@ fn end_of(at: u32, len: usize) -> Option<u32>
 }
 
 /// Writes bytes into a file of that size in bytes, from a place inside it or at its end, in one page step for each part: where the data pages
-/// end, at the old end of the file, and at the end of the write. Where they can be written, a fault of the device is the one error.
+/// end, at the old end of the file, and at the end of the write. Where they can be written, a fault of the device is the one error. The tail of the file is
+/// ready then for more, where the write ends behind the old end.
 pub fn write_sized<N: Nor>(
     v: &mut View<'_, N>,
     id: u16,
@@ -128,7 +147,8 @@ pub fn write_sized<N: Nor>(
     at: u32,
     bytes: &[u8],
 ) -> Result<(), FsErr>
-    ensures { (f : File) → (N.tells v.old.nor.now → CanWrite v.old.geometry (N.bytes v.old.nor.now) id at bytes.now f → size ≡ length f.bytes) → Stepped refusing v.old v.new result (writing id at bytes.now f) }
+    ensures { (f : File) → (N.tells v.old.nor.now → CanWrite v.old.geometry (N.bytes v.old.nor.now) id at bytes.now f → size ≡ length f.bytes) →
+        Stepped refusing v.old v.new result (writing id at bytes.now f) }
 {
     let Some(end) = end_of(at, bytes.len()) else {
         return Err(FsErr::Damaged(no_header(id)));
@@ -137,7 +157,7 @@ pub fn write_sized<N: Nor>(
     while from < end {
         let to = part_end(&v.geometry, size, from, end);
         let part = &bytes[(from - at) as usize..(to - at) as usize];
-        write_part(v, id, size.max(from), from, part)?;
+        write_part(v, id, from > size, size.max(from), from, part)?;
         from = to;
     }
     Ok(())

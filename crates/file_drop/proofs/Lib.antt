@@ -1,5 +1,6 @@
+pub mod Programs
 pub mod Killing
-pub mod Marking
 pub mod Seeing
+pub mod Marking
 pub mod Passing
 pub mod Truncates

@@ -1,10 +1,13 @@
 -- The header page of a file is marked, and then killed.
-use Rattle.std.proofs.Common.{◌≡◌, ◌≢◌, ℕ, ◌+◌, ◌*◌, ◌<◌, ◌≤◌, List, [], ◌∷◌, slice_index, true, false, Option, Some, None, ap, refl, sym, ◌∙◌, arith, ⊎_elim, inl, inr, subst}
+use Rattle.std.proofs.Common.{◌≡◌, ◌≢◌, ℕ, ◌+◌, ◌-◌, ◌*◌, ◌<◌, ◌≤◌, List, [], ◌∷◌, slice_index, true, false, Option, Some, None, ap, refl, sym, ◌∙◌, arith, ⊎_elim, inl, inr, subst}
 use Rattle.std.specs.Prelude.{bit_and, is_some}
+use Rattle.std.proofs.Math.Path.{fun_ext}
 use Rattle.std.specs.Int.{bit_at}
 use Rattle.geometry.specs.declared.geometry.Geometry.{Geometry}
 use Rattle.nor_core.specs.Flash.{HalfProgrammed, programmed}
-use Rattle.image_model.specs.Within.{sizes}
+use Rattle.nor_core.proofs.Programs.{half_programmed}
+use Rattle.geometry.specs.Numbers.{page_count}
+use Rattle.image_model.specs.Within.{sizes, page_number}
 use Rattle.image_model.specs.Places.{page_of, IsImage}
 use Rattle.image_model.specs.Headers.{is_finished, names_index, span_of}
 use Rattle.image_model.specs.Live.{live_at, own}
@@ -30,13 +33,20 @@ use Rattle.image_laws.proofs.Sounding.{sound-on}
 use Rattle.image_laws.proofs.SpareKill.{tidy-has_magics}
 use Rattle.image_laws.proofs.TidySteps.{tidy-is_tidy}
 use Rattle.header_laws.proofs.Telling.{one-head}
+use Rattle.trim_laws.specs.Wear.{SameWear, Worn}
 use Rattle.trim_laws.proofs.Trims.{flags_trim}
+use Rattle.trim_laws.proofs.Wears.{inside_keeps, upkeep_same, worn_same}
 use Rattle.flash_view.specs.Steps.{Begins, Finishes, making}
 use Rattle.page_put.specs.LivePages.{clearing, Stays, Cleared}
+use Rattle.page_put.specs.Recount.{IsUsedPage}
+use Rattle.page_put.proofs.UsedPages.{live_used}
 use Rattle.page_put.proofs.Clearing.{left_half, left_done, clears_mark, below_byte}
 use Rattle.file_drop.specs.Drops.{none_kept, is_left}
 use Rattle.file_drop.specs.Removals.{CanDrop, RemoveCut, HeaderDropped, dropping_header}
-use Rattle.file_drop.proofs.Killing.{some_page, all_left, dead_keeps, dead_orphans}
+use Rattle.file_drop.specs.Programs.{past_in, pages_of}
+use Rattle.file_drop.proofs.Killing.{some_page, own_none, all_left, dead_keeps, dead_orphans}
+use Rattle.file_drop.proofs.Programs.{rest_met, one_fewer}
+use Rattle.file_drop.proofs.Seeing.{first_is_left}
 
 some_index : (o : Option (List ℕ)) → is_index o 0 ≡ true → (x : List ℕ) × (o ≡ Some x)
 some_index None e = absurd (cc)
@@ -117,8 +127,19 @@ module _ (g : Geometry) (a : List ℕ) (id p : ℕ) (is : IsImage g a) (can : Ca
   left : Removed g p id a marked
   left = removing-leaves g a marked p flags id 6 page.0 start can.can.tidy program
 
-  pub marks : Begins g a (making (λ h. HalfProgrammed (p * h.page + 4) (0xBF ∷ [])) (λ h b. programmed b (p * h.page + 4) (0xBF ∷ []))) (dropping_header id p)
-  marks = record { needs = λ c h. flags_trim g a c p page.0 (0xBF ∷ []) is live refl h; cut = mark_cut }
+  -- all erase counts stay
+  marked_wear : (c : List ℕ) → HalfProgrammed (p * g.page + 4) (0xBF ∷ []) a c → SameWear g a c
+  marked_wear c h = inside_keeps g a c p (p * g.page + 4) 1 parts.entry_page (omega arith) (omega (arith, (sizes g).page)) h.outside
+
+  pub marks : Begins g a (making (λ h l. IsUsedPage h l p) (λ h. HalfProgrammed (p * h.page + 4) (0xBF ∷ [])) (λ h b. programmed b (p * h.page + 4) (0xBF ∷ []))) (dropping_header id p)
+  marks = record {
+    needs = (
+      live_used g a p page.0 live,
+      (λ c h. upkeep_same g a c (flags_trim g a c p page.0 (0xBF ∷ []) is live refl h) (marked_wear c h)),
+      λ c now. subst (λ (l : List ℕ). Worn g a l) (sym now) (worn_same g a _ (marked_wear _ (half_programmed a (p * g.page + 4) (0xBF ∷ [])))),
+    );
+    cut = mark_cut;
+  }
 
   -- ---- the kill
 
@@ -146,6 +167,24 @@ module _ (g : Geometry) (a : List ℕ) (id p : ℕ) (is : IsImage g a) (can : Ca
       let z = own-parts (live_at g marked) id q w.0 w.1 in
       ap is_some (own-some (live_at g a) id q w.0 (left.others q w.0 z.0) z.1)
 
+  -- the id has a page at least
+  pub one_page : 1 ≤ pages_of g a id
+  unfolding past_in
+  one_page =
+      let all : page_count g - 0 ≡ page_count g = omega arith in
+      let met = rest_met (λ q. is_left g a id none_kept q) 0 p (page_count g) (omega arith) (page_number g p parts.entry_page) (first_is_left g a id p can.first) in
+      let count = rw all at met in
+      omega (arith, count)
+
+  -- the header page is gone, and no other page has come
+  one_page_fewer : (c : List ℕ) → Stays g p marked c → pages_of g c id + 1 ≤ pages_of g a id
+  unfolding past_in
+  one_page_fewer c h =
+      let same : live_at g c ≡ live_at g marked = fun_ext h.live in
+      let gone : is_left g c id none_kept p ≡ false = rw (own_none (live_at g c) id p (h.live p ∙ left.dead)) refl in
+      one_fewer (λ q. is_left g a id none_kept q) (λ q. is_left g c id none_kept q) p (page_count g) (page_number g p parts.entry_page) (first_is_left g a id p can.first) gone
+      (λ q yes. all_left g a id q ∙ back q (rw same at yes))
+
   done : (c : List ℕ) → Cleared g p marked c → HeaderDropped g a id c
   done c h =
       let before = sound marked half in
@@ -155,6 +194,7 @@ module _ (g : Geometry) (a : List ℕ) (id p : ℕ) (is : IsImage g a) (can : Ca
         table = after.keeps.table ∙ left.table;
         free = omega (arith, before.2, after.free);
         left = dead_orphans g marked c id p (λ r. is_some (own (live_at g a) id r)) left.orphans leaves back h;
+        fewer = one_page_fewer c h.stays;
       }
 
   pub clears_header : (b : List ℕ) → b ≡ marked → Finishes g a b (clearing p) (dropping_header id p)

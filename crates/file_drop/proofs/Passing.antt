@@ -45,24 +45,26 @@ keeps_then g a b c x y = record { keeps = keeps-on g a b c x.keeps y.keeps; free
 
 -- ---- page by page
 
--- no page below n is to go
+-- no page below n is to go, and no other page than before
 pub record Dropping (g : Geometry) (was now : List ℕ) (id : ℕ) (kept : Kept) (n : ℕ) : Type 0 where
   pub keeps : KeepsAll g was now
   pub left : HasLeft g id kept now
   pub passed : (q : ℕ) → q < n → is_left g now id kept q ≡ false
+  pub others : (q : ℕ) → is_left g was id kept q ≡ false → is_left g now id kept q ≡ false
 
 -- the turns of the pages below n
 abbrev pub dropping_to : ℕ → Kept → ℕ → Step (Unit {0})
 dropping_to id kept n = record { needs = λ g was. HasLeft g id kept was; cut = λ g was image. KeepsAll g was image; done = λ g was now ok. Dropping g was now id kept n }
 
 pub none_yet : (g : Geometry) (a : List ℕ) (id : ℕ) (kept : Kept) → HasLeft g id kept a → KeepsAll g a a × Dropping g a a id kept 0
-none_yet g a id kept o = (keeps_none g id kept a o, record { keeps = keeps_none g id kept a o; left = o; passed = λ q low. absurd (omega arith) })
+none_yet g a id kept o = (keeps_none g id kept a o, record { keeps = keeps_none g id kept a o; left = o; passed = λ q low. absurd (omega arith); others = λ q e. e })
 
 -- pages that are passed over aren't to go
 pub passes_others : (g : Geometry) (a b : List ℕ) (id : ℕ) (kept : Kept) (n m : ℕ) → ((q : ℕ) → n ≤ q → q < m → is_left g b id kept q ≡ false) → Dropping g a b id kept n → Dropping g a b id kept m
 passes_others g a b id kept n m others s = record {
   keeps = s.keeps;
   left = s.left;
+  others = s.others;
   passed = λ q low. ⊎_elim
       (λ (before : q < n). s.passed q before)
       (λ (behind : n ≤ q). others q behind low)
@@ -76,6 +78,7 @@ turns g a b id kept n head live s = record {
   done = λ c ok turn. record {
     keeps = keeps_then g a b c s.keeps turn.keeps;
     left = turn.left;
+    others = λ q e. turn.others q (s.others q e);
     passed = λ q low. ⊎_elim
         (λ (last : q ≡ n). rw last turn.gone)
         (λ (other : q ≡ n → ⊥). turn.others q (s.passed q (omega (arith, low, other))))

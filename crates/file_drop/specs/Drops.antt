@@ -43,7 +43,11 @@ pub record DropsPages (g : Geometry) (was now : List ℕ) : Type 0 where
 -- ---- the steps: a turn at page p, which is live with a header, and all turns
 
 abbrev pub dropping : ℕ → Kept → ℕ → PageHeader → Step (Unit {0})
-dropping id kept p head = record { needs = λ g was. HasLeft g id kept was × (Some head ≡ option_map header_at (live_at g was p)); cut = λ g was image. KeepsAll g was image; done = λ g was now ok. DropsPage g id kept p was now }
+dropping id kept p head = record {
+  needs = λ g was. HasLeft g id kept was × (Some head ≡ option_map header_at (live_at g was p));
+  cut = λ g was image. KeepsAll g was image;
+  done = λ g was now ok. DropsPage g id kept p was now;
+}
 
 abbrev pub dropping_all : ℕ → Kept → Step (Unit {0})
 dropping_all id kept = record { needs = λ g was. HasLeft g id kept was; cut = λ g was image. KeepsAll g was image; done = λ g was now ok. DropsPages g was now }

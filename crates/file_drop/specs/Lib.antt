@@ -1,3 +1,4 @@
 pub mod Drops
+pub mod Programs
 pub mod Removals
 pub mod Truncates

@@ -9,6 +9,7 @@ use Rattle.image_model.specs.Tidy.{IsTidy, free_blocks}
 use Rattle.image_model.specs.Sound.{IsSound}
 use Rattle.flash_view.specs.Steps.{Step}
 use Rattle.file_drop.specs.Drops.{HasLeft, none_kept}
+use Rattle.file_drop.specs.Programs.{pages_of}
 
 -- The image is tidy, and its table has a file of that id.
 pub record CanRemove (g : Geometry) (image : List ℕ) (id : ℕ) : Type 0 where
@@ -33,17 +34,19 @@ pub record CanDrop (g : Geometry) (image : List ℕ) (id p : ℕ) : Type 0 where
   pub first : index_page g (own (live_at g image) id) 0 ≡ Some p
   pub byte : slice_index image (p * g.page + 4) < 256
 
--- Once the header page is killed the file isn't in the table, and the image is tidy but for its other pages.
+-- Once the header page is killed the file isn't in the table, and the image is tidy but for its other pages, one fewer than before.
 pub record HeaderDropped (g : Geometry) (was : List ℕ) (id : ℕ) (now : List ℕ) : Type 0 where
   pub sound : IsSound g now was
   pub table : table_of g now ≡ drop_file id (table_of g was)
   pub free : free_blocks g was ≤ free_blocks g now
   pub left : HasLeft g id none_kept now
+  pub fewer : pages_of g now id + 1 ≤ pages_of g was id
 
 -- ---- the steps of a remove: that of the header page p, with those of all pages, and the whole remove
 
 abbrev pub dropping_header : ℕ → ℕ → Step (Unit {0})
-dropping_header id p = record { needs = λ g was. CanDrop g was id p; cut = λ g was image. RemoveCut g was id image; done = λ g was now ok. HeaderDropped g was id now }
+dropping_header id p =
+    record { needs = λ g was. CanDrop g was id p; cut = λ g was image. RemoveCut g was id image; done = λ g was now ok. HeaderDropped g was id now }
 
 abbrev pub removing_by : ℕ → ℕ → Step (Unit {0})
 removing_by id p = record { needs = λ g was. CanDrop g was id p; cut = λ g was image. RemoveCut g was id image; done = λ g was now ok. IsRemoved g was id now }

@@ -1,12 +1,13 @@
-ghost use Rattle.std.specs.Prelude.{◌≡◌, ◌+◌, ◌*◌, ◌%◌, ◌==◌, ◌&&◌, ◌<◌, OnErr, IfOk, slice_index};
+ghost use Rattle.std.specs.Prelude.{◌≡◌, ◌+◌, ◌*◌, ◌%◌, ◌==◌, ◌&&◌, ◌<◌, ◌≤◌, OnErr, IfOk, slice_index, false};
 ghost use Rattle.std.specs.Bool.{OnTrue};
-ghost use Rattle.geometry.specs.Numbers.{page_count};
+ghost use Rattle.geometry.specs.Numbers.{page_count, usable};
 ghost use Rattle.nor_core.specs.Count.{Rose};
 ghost use Rattle.page_layout.specs.Layout.{bits_of};
 ghost use Rattle.flash_view.specs.Places.{IsEntryPage};
 ghost use Rattle.flash_view.specs.Same.{OnlyLooks};
 ghost use Rattle.flash_view.specs.Steps.{Stepped, failed};
-ghost use Rattle.file_drop.specs.Drops.{is_left as the_left, is_past_header, dropping, dropping_all};
+ghost use Rattle.file_drop.specs.Drops.{is_left as the_left, is_past_header, HasLeft, dropping, dropping_all};
+ghost use Rattle.file_drop.specs.Programs.{past_in};
 
 use flash_view::{View, is_entry_page};
 use nor_core::{Failed, Nor, NorState};
@@ -60,7 +61,7 @@ pub(crate) fn is_left<N: Nor>(
     Ok(is_past(head, id, kept))
 }
 
-// Kills a live page with this header, if it is a page of an id that isn't kept.
+// Kills a live page with this header, if it is a page of an id that isn't kept: two programs at most.
 fn drop_page<N: Nor>(
     v: &mut View<'_, N>,
     page: u16,
@@ -69,7 +70,9 @@ fn drop_page<N: Nor>(
     kept: Kept,
 ) -> Result<(), Failed>
     requires { IsEntryPage v.old.geometry page }
-    ensures { Stepped failed v.old v.new result (dropping id kept page head) }
+    ensures step { Stepped failed v.old v.new result (dropping id kept page head) }
+    ensures few { N.device_writes v.new.nor.now ≤ N.device_writes v.old.nor.now + 2 }
+    ensures spares { ((head.id % 0x8000 == id) && is_past_header kept head) ≡ false → N.device_writes v.new.nor.now ≤ N.device_writes v.old.nor.now }
 {
     if !is_past(head, id, kept) {
         return Ok(());
@@ -77,10 +80,13 @@ fn drop_page<N: Nor>(
     kill(v, page)
 }
 
-/// Kills each live page of an id that isn't kept, in page order. None of them is to be needed. (Looked at are the pages
-/// whose entry lies between that of the id's data pages and that of its index pages.)
+/// Kills each live page of an id that isn't kept, in page order, each by two programs. None of them is to be needed. (Looked at are the
+/// pages whose entry lies between that of the id's data pages and that of its index pages.)
 pub(crate) fn drop_pages<N: Nor>(v: &mut View<'_, N>, id: u16, kept: Kept) -> Result<(), Failed>
-    ensures { Stepped failed v.old v.new result (dropping_all id kept) }
+    ensures step { Stepped failed v.old v.new result (dropping_all id kept) }
+    ensures few { N.tells v.old.nor.now → HasLeft v.old.geometry id kept (N.bytes v.old.nor.now) →
+        N.device_writes v.new.nor.now ≤ N.device_writes v.old.nor.now + 2 * past_in v.old.geometry (N.bytes v.old.nor.now) id kept.index_pages kept.data_pages }
+    ensures most { N.device_writes v.new.nor.now ≤ N.device_writes v.old.nor.now + 2 * usable v.old.geometry }
 {
     let high = id.saturating_add(INDEX_BIT);
     let mut at = 0;

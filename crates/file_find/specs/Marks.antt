@@ -1,5 +1,6 @@
 -- Marks of pages: a byte for each, that tells the header pages of files and of damaged files, and behind them notes of ids.
-use Rattle.std.specs.Prelude.{◌≡◌, ◌≢◌, ℕ, ◌<◌, ◌≤◌, ◌+◌, ◌-◌, ◌*◌, ◌%◌, List, ◌==◌, ◌&&◌, true, Option, Some, None, Result, Ok, Err, find, is_some, option_and_then, unwrap_or, slice_index, if◌then◌else◌}
+use Rattle.std.specs.Prelude.{◌≡◌, ◌≢◌, ℕ, ◌<◌, ◌≤◌, ◌+◌, ◌-◌, ◌*◌, ◌%◌, List, ◌==◌, ◌&&◌, true, Option, Some, None, Result, Ok, Err, find, is_some}
+use Rattle.std.specs.Prelude.{option_and_then, unwrap_or, slice_index, if◌then◌else◌}
 use Rattle.std.specs.List.{range_with_len, fold}
 use Rattle.std.specs.Option.{option_map}
 use Rattle.geometry.specs.declared.geometry.Geometry.{Geometry}

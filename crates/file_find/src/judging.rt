@@ -32,7 +32,8 @@ fn missing_in<N: Nor>(
     requires inside { at + 2 * (end - first) ≤ v.old.geometry.page }
     ensures cause { OnErr result (Rose (N.faults v.old.nor.now) (N.faults v.new.nor.now)) }
     ensures looks { OnlyLooks v.old v.new }
-    ensures told { N.tells v.old.nor.now → IfOk result (λ span. span ≡ missing_entry (own (live_at v.old.geometry (N.bytes v.old.nor.now)) id) (page_of v.old.geometry (N.bytes v.old.nor.now) index) at first end) }
+    ensures told { N.tells v.old.nor.now → IfOk result (λ span.
+        span ≡ missing_entry (own (live_at v.old.geometry (N.bytes v.old.nor.now)) id) (page_of v.old.geometry (N.bytes v.old.nor.now) index) at first end) }
     ensures built { take v.old.geometry.page v.new.work.now ≡ take v.old.geometry.page v.old.work.now }
 {
     v.fetch(index)?;
@@ -57,7 +58,9 @@ fn missing_of<N: Nor>(
     requires few { spans < 2 ^ 26 }
     ensures cause { OnErr result (Rose (N.faults v.old.nor.now) (N.faults v.new.nor.now)) }
     ensures looks { OnlyLooks v.old v.new }
-    ensures told { N.tells v.old.nor.now → IfOk result (λ span. (head : List ℕ) → span ≡ missing_between v.old.geometry (own (live_at v.old.geometry (N.bytes v.old.nor.now)) id) head (head_slots v.old.geometry + k * span_slots v.old.geometry) (min (head_slots v.old.geometry + k * span_slots v.old.geometry + span_slots v.old.geometry) spans)) }
+    ensures told { N.tells v.old.nor.now →
+        IfOk result (λ span. (head : List ℕ) → span ≡ missing_between v.old.geometry (own (live_at v.old.geometry (N.bytes v.old.nor.now)) id) head (head_slots
+        v.old.geometry + k * span_slots v.old.geometry) (min (head_slots v.old.geometry + k * span_slots v.old.geometry + span_slots v.old.geometry) spans)) }
     ensures built { take v.old.geometry.page v.new.work.now ≡ take v.old.geometry.page v.old.work.now }
 {
     let g = v.geometry;
@@ -75,7 +78,8 @@ fn missing_behind<N: Nor>(v: &mut View<'_, N>, id: u16, spans: u32) -> Result<Op
     requires { spans < 2 ^ 26 }
     ensures cause { OnErr result (Rose (N.faults v.old.nor.now) (N.faults v.new.nor.now)) }
     ensures looks { OnlyLooks v.old v.new }
-    ensures told { N.tells v.old.nor.now → IfOk result (λ span. (head : List ℕ) → span ≡ missing_between v.old.geometry (own (live_at v.old.geometry (N.bytes v.old.nor.now)) id) head (head_slots v.old.geometry) spans) }
+    ensures told { N.tells v.old.nor.now → IfOk result (λ span. (head : List ℕ) →
+        span ≡ missing_between v.old.geometry (own (live_at v.old.geometry (N.bytes v.old.nor.now)) id) head (head_slots v.old.geometry) spans) }
     ensures built { take v.old.geometry.page v.new.work.now ≡ take v.old.geometry.page v.old.work.now }
 {
     for k in 0..further_pages(&v.geometry, spans) {
@@ -99,7 +103,8 @@ fn first_missing<N: Nor>(
     requires few { spans < 2 ^ 26 }
     ensures cause { OnErr result (Rose (N.faults v.old.nor.now) (N.faults v.new.nor.now)) }
     ensures looks { OnlyLooks v.old v.new }
-    ensures told { N.tells v.old.nor.now → IfOk result (λ span. span ≡ missing_between v.old.geometry (own (live_at v.old.geometry (N.bytes v.old.nor.now)) id) (page_of v.old.geometry (N.bytes v.old.nor.now) header) 0 spans) }
+    ensures told { N.tells v.old.nor.now → IfOk result (λ span. span ≡ missing_between v.old.geometry (own (live_at v.old.geometry (N.bytes v.old.nor.now)) id)
+        (page_of v.old.geometry (N.bytes v.old.nor.now) header) 0 spans) }
     ensures built { take v.old.geometry.page v.new.work.now ≡ take v.old.geometry.page v.old.work.now }
 {
     let g = v.geometry;
@@ -117,7 +122,8 @@ pub fn judge<N: Nor>(v: &mut View<'_, N>, id: u16, header: u16) -> Result<Option
     requires { header < page_count v.old.geometry }
     ensures cause { OnErr result (Rose (N.faults v.old.nor.now) (N.faults v.new.nor.now)) }
     ensures looks { OnlyLooks v.old v.new }
-    ensures told { N.tells v.old.nor.now → IfOk result (λ cause. cause ≡ cause_of (judged v.old.geometry (own (live_at v.old.geometry (N.bytes v.old.nor.now)) id) id (page_of v.old.geometry (N.bytes v.old.nor.now) header))) }
+    ensures told { N.tells v.old.nor.now → IfOk result (λ cause. cause ≡ cause_of
+        (judged v.old.geometry (own (live_at v.old.geometry (N.bytes v.old.nor.now)) id) id (page_of v.old.geometry (N.bytes v.old.nor.now) header))) }
     ensures built { take v.old.geometry.page v.new.work.now ≡ take v.old.geometry.page v.old.work.now }
 {
     let (name, size) = head_of(v, header)?;

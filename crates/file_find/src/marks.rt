@@ -1,4 +1,5 @@
-ghost use Rattle.std.specs.Prelude.{◌≡◌, ◌+◌, ◌%◌, ◌==◌, ◌<◌, ◌≤◌, ℕ, List, true, length, slice_index, not, nat_lt, Some, None, OnOk, OnErr, IfOk, IfSome, take, if◌then◌else◌};
+ghost use Rattle.std.specs.Prelude.{◌≡◌, ◌+◌, ◌%◌, ◌==◌, ◌<◌, ◌≤◌, ℕ, List, true, length, slice_index, not, nat_lt, Some, None, OnOk, OnErr, IfOk, IfSome};
+ghost use Rattle.std.specs.Prelude.{take, if◌then◌else◌};
 ghost use Rattle.geometry.specs.Numbers.{page_count, check_need};
 ghost use Rattle.nor_core.specs.Count.{Rose};
 ghost use Rattle.image_model.specs.Places.{page_of};
@@ -9,7 +10,9 @@ ghost use Rattle.image_model.specs.Tidy.{is_number};
 ghost use Rattle.flash_view.specs.Found.{headed as the_headed};
 ghost use Rattle.flash_view.specs.Same.{OnlyLooks};
 ghost use Rattle.file_find.specs.Ids.{is_noted as the_is_noted, name_number, NotesNames};
-ghost use Rattle.file_find.specs.Marks.{NamesBelow, mark_of, name_mark as the_name_mark, whole_mark, head_mark, MarkedBelow, Surveyed, IsMarked, marked_id as the_marked_id, head_between, holder_at as the_holder_at, holder_below as the_holder_below, NextHead, NextMark, same_name as the_same_name, table_id, cause_at};
+ghost use Rattle.file_find.specs.Marks.{NamesBelow, mark_of, name_mark as the_name_mark, whole_mark, head_mark, MarkedBelow, Surveyed, IsMarked};
+ghost use Rattle.file_find.specs.Marks.{marked_id as the_marked_id, head_between, holder_at as the_holder_at, holder_below as the_holder_below, NextHead};
+ghost use Rattle.file_find.specs.Marks.{NextMark, same_name as the_same_name, table_id, cause_at};
 
 use crate::ids::{clear, is_noted, note_first, note_name};
 use crate::judging::judge;
@@ -102,8 +105,12 @@ fn mark_page<N: Nor>(
     ensures cause { OnErr result (Rose (N.faults v.old.nor.now) (N.faults v.new.nor.now)) }
     ensures looks { OnlyLooks v.old v.new }
     ensures behind { OnOk result ((p : ℕ) → page < p → p < page_count v.old.geometry → slice_index marks.new p ≡ slice_index marks.old p) }
-    ensures told { N.tells v.old.nor.now → found ≡ the_headed (live_at v.old.geometry (N.bytes v.old.nor.now) page) → Surveyed v.old.geometry (N.bytes v.old.nor.now) marks.old page → NamesBelow v.old.geometry (N.bytes v.old.nor.now) marks.old page → OnOk result (Surveyed v.old.geometry (N.bytes v.old.nor.now) marks.new (page + 1)) }
-    ensures names { N.tells v.old.nor.now → found ≡ the_headed (live_at v.old.geometry (N.bytes v.old.nor.now) page) → Surveyed v.old.geometry (N.bytes v.old.nor.now) marks.old page → NamesBelow v.old.geometry (N.bytes v.old.nor.now) marks.old page → OnOk result (NamesBelow v.old.geometry (N.bytes v.old.nor.now) marks.new (page + 1)) }
+    ensures told { N.tells v.old.nor.now → found ≡ the_headed (live_at v.old.geometry (N.bytes v.old.nor.now) page) →
+        Surveyed v.old.geometry (N.bytes v.old.nor.now) marks.old page → NamesBelow v.old.geometry (N.bytes v.old.nor.now) marks.old page →
+        OnOk result (Surveyed v.old.geometry (N.bytes v.old.nor.now) marks.new (page + 1)) }
+    ensures names { N.tells v.old.nor.now → found ≡ the_headed (live_at v.old.geometry (N.bytes v.old.nor.now) page) →
+        Surveyed v.old.geometry (N.bytes v.old.nor.now) marks.old page → NamesBelow v.old.geometry (N.bytes v.old.nor.now) marks.old page →
+        OnOk result (NamesBelow v.old.geometry (N.bytes v.old.nor.now) marks.new (page + 1)) }
     ensures built { take v.old.geometry.page v.new.work.now ≡ take v.old.geometry.page v.old.work.now }
 {
     let first = note_first(marks, v.geometry.pages() as usize, found);
@@ -124,9 +131,11 @@ fn mark<N: Nor>(
     requires room { check_need v.old.geometry ≤ length marks.old }
     ensures cause { OnErr result (Rose (N.faults v.old.nor.now) (N.faults v.new.nor.now)) }
     ensures looks { OnlyLooks v.old v.new }
-    ensures told { N.tells v.old.nor.now → MarkedBelow v.old.geometry (N.bytes v.old.nor.now) marks.old page → NamesBelow v.old.geometry (N.bytes v.old.nor.now) marks.old page → IfOk result (λ mark. mark ≡ head_mark v.old.geometry (N.bytes v.old.nor.now) first page) }
+    ensures told { N.tells v.old.nor.now → MarkedBelow v.old.geometry (N.bytes v.old.nor.now) marks.old page → NamesBelow v.old.geometry
+        (N.bytes v.old.nor.now) marks.old page → IfOk result (λ mark. mark ≡ head_mark v.old.geometry (N.bytes v.old.nor.now) first page) }
     ensures names { NotesNames (page_count v.old.geometry) marks.old marks.new }
-    ensures named { N.tells v.old.nor.now → IfOk result (λ mark. (name : List ℕ) → 3 ≤ mark → the_name_of (page_of v.old.geometry (N.bytes v.old.nor.now) page) ≡ Some name → the_is_noted marks.new (page_count v.old.geometry) (name_number name) ≡ true) }
+    ensures named { N.tells v.old.nor.now → IfOk result (λ mark. (name : List ℕ) → 3 ≤ mark → the_name_of (page_of v.old.geometry (N.bytes v.old.nor.now) page)
+        ≡ Some name → the_is_noted marks.new (page_count v.old.geometry) (name_number name) ≡ true) }
     ensures built { take v.old.geometry.page v.new.work.now ≡ take v.old.geometry.page v.old.work.now }
 {
     let Some(id) = first else {
@@ -146,9 +155,12 @@ fn mark_whole<N: Nor>(v: &mut View<'_, N>, marks: &mut [u8], page: u16) -> Resul
     requires room { check_need v.old.geometry ≤ length marks.old }
     ensures cause { OnErr result (Rose (N.faults v.old.nor.now) (N.faults v.new.nor.now)) }
     ensures looks { OnlyLooks v.old v.new }
-    ensures told { N.tells v.old.nor.now → MarkedBelow v.old.geometry (N.bytes v.old.nor.now) marks.old page → NamesBelow v.old.geometry (N.bytes v.old.nor.now) marks.old page → IfOk result (λ mark. mark ≡ whole_mark v.old.geometry (N.bytes v.old.nor.now) page (the_name_of (page_of v.old.geometry (N.bytes v.old.nor.now) page))) }
+    ensures told { N.tells v.old.nor.now → MarkedBelow v.old.geometry (N.bytes v.old.nor.now) marks.old page →
+        NamesBelow v.old.geometry (N.bytes v.old.nor.now) marks.old page → IfOk result
+        (λ mark. mark ≡ whole_mark v.old.geometry (N.bytes v.old.nor.now) page (the_name_of (page_of v.old.geometry (N.bytes v.old.nor.now) page))) }
     ensures names { NotesNames (page_count v.old.geometry) marks.old marks.new }
-    ensures named { N.tells v.old.nor.now → IfOk result (λ mark. (name : List ℕ) → 3 ≤ mark → the_name_of (page_of v.old.geometry (N.bytes v.old.nor.now) page) ≡ Some name → the_is_noted marks.new (page_count v.old.geometry) (name_number name) ≡ true) }
+    ensures named { N.tells v.old.nor.now → IfOk result (λ mark. (name : List ℕ) → 3 ≤ mark → the_name_of (page_of v.old.geometry (N.bytes v.old.nor.now) page)
+        ≡ Some name → the_is_noted marks.new (page_count v.old.geometry) (name_number name) ≡ true) }
     ensures built { take v.old.geometry.page v.new.work.now ≡ take v.old.geometry.page v.old.work.now }
 {
     let Some(name) = v.name_at(page)? else {
@@ -306,7 +318,8 @@ fn holder_below<N: Nor>(
     requires room { page_count v.old.geometry ≤ length marks.now }
     ensures cause { OnErr result (Rose (N.faults v.old.nor.now) (N.faults v.new.nor.now)) }
     ensures looks { OnlyLooks v.old v.new }
-    ensures told { N.tells v.old.nor.now → MarkedBelow v.old.geometry (N.bytes v.old.nor.now) marks.now end → IfOk result (λ id. id ≡ the_holder_below v.old.geometry (N.bytes v.old.nor.now) name.now end) }
+    ensures told { N.tells v.old.nor.now → MarkedBelow v.old.geometry (N.bytes v.old.nor.now) marks.now end →
+        IfOk result (λ id. id ≡ the_holder_below v.old.geometry (N.bytes v.old.nor.now) name.now end) }
     ensures built { take v.old.geometry.page v.new.work.now ≡ take v.old.geometry.page v.old.work.now }
 {
     let sought = name_mark(name);
@@ -345,7 +358,8 @@ fn holder_at<N: Nor>(
     requires sought { sought ≡ the_name_mark name.now }
     ensures cause { OnErr result (Rose (N.faults v.old.nor.now) (N.faults v.new.nor.now)) }
     ensures looks { OnlyLooks v.old v.new }
-    ensures told { N.tells v.old.nor.now → mark ≡ mark_of v.old.geometry (N.bytes v.old.nor.now) page → IfOk result (λ id. id ≡ the_holder_at v.old.geometry (N.bytes v.old.nor.now) name.now page) }
+    ensures told { N.tells v.old.nor.now → mark ≡ mark_of v.old.geometry (N.bytes v.old.nor.now) page →
+        IfOk result (λ id. id ≡ the_holder_at v.old.geometry (N.bytes v.old.nor.now) name.now page) }
     ensures built { take v.old.geometry.page v.new.work.now ≡ take v.old.geometry.page v.old.work.now }
 {
     if mark != sought {
@@ -396,7 +410,8 @@ fn same_name<N: Nor>(
     requires marked { N.tells v.old.nor.now → IsMarked v.old.geometry (N.bytes v.old.nor.now) marks.now }
     ensures cause { OnErr result (Rose (N.faults v.old.nor.now) (N.faults v.new.nor.now)) }
     ensures looks { OnlyLooks v.old v.new }
-    ensures told { N.tells v.old.nor.now → IfOk result (λ cause. cause ≡ the_same_name v.old.geometry (N.bytes v.old.nor.now) (the_name_of (page_of v.old.geometry (N.bytes v.old.nor.now) header))) }
+    ensures told { N.tells v.old.nor.now → IfOk result
+        (λ cause. cause ≡ the_same_name v.old.geometry (N.bytes v.old.nor.now) (the_name_of (page_of v.old.geometry (N.bytes v.old.nor.now) header))) }
     ensures built { take v.old.geometry.page v.new.work.now ≡ take v.old.geometry.page v.old.work.now }
 {
     let Some(name) = v.name_at(header)? else {

@@ -1,4 +1,5 @@
-ghost use Rattle.std.specs.Prelude.{◌≡◌, ℕ, List, ◌+◌, ◌-◌, ◌*◌, ◌/◌, ◌%◌, ◌^◌, ◌<◌, ◌≤◌, length, slice_range, is_some, true, unwrap_or, [], Some, OnOk, IfOk, IfErr, IfSome, OnErr, IsErrOf};
+ghost use Rattle.std.specs.Prelude.{◌≡◌, ℕ, List, ◌+◌, ◌-◌, ◌*◌, ◌/◌, ◌%◌, ◌^◌, ◌<◌, ◌≤◌, length, slice_range, is_some, true, unwrap_or, [], Some, OnOk, IfOk};
+ghost use Rattle.std.specs.Prelude.{IfErr, IfSome, OnErr, IsErrOf};
 ghost use Rattle.std.specs.Option.{option_map};
 ghost use Rattle.geometry.specs.Numbers.{page_count, body};
 ghost use Rattle.nor_core.specs.Count.{Rose};
@@ -50,7 +51,8 @@ fn find_data<N: Nor>(
     ensures cause { OnErr result (Rose (N.faults v.old.nor.now) (N.faults v.new.nor.now)) }
     ensures looks { OnlyLooks v.old v.new }
     ensures inside { IfOk result (λ page. IfSome page (λ p. p < page_count v.old.geometry)) }
-    ensures told { N.tells v.old.nor.now → IfOk result (λ page. option_map (λ p. page_of v.old.geometry (N.bytes v.old.nor.now) p) page ≡ named_page v.old.geometry (N.bytes v.old.nor.now) id index span) }
+    ensures told { N.tells v.old.nor.now → IfOk result
+        (λ page. option_map (λ p. page_of v.old.geometry (N.bytes v.old.nor.now) p) page ≡ named_page v.old.geometry (N.bytes v.old.nor.now) id index span) }
 {
     let at = entry_place(&v.geometry, span);
     let page = v.word_in(index, at)?;
@@ -78,7 +80,8 @@ fn read_span<N: Nor>(
     ensures cause { IsErrOf result StepErr.DeviceFault → Rose (N.faults v.old.nor.now) (N.faults v.new.nor.now) }
     ensures looks { OnlyLooks v.old v.new }
     ensures missing { IfErr result (IsMissing id) }
-    ensures told { N.tells v.old.nor.now → (page : List ℕ) → named_page v.old.geometry (N.bytes v.old.nor.now) id index span ≡ Some page → HoldsOrFault result (λ done. part.new ≡ slice_range page (5 + from) (5 + from + length part.old)) }
+    ensures told { N.tells v.old.nor.now → (page : List ℕ) → named_page v.old.geometry (N.bytes v.old.nor.now) id index span ≡ Some page →
+        HoldsOrFault result (λ done. part.new ≡ slice_range page (5 + from) (5 + from + length part.old)) }
 {
     let Some(page) = find_data(v, id, span, index)? else {
         return Err(StepErr::Damaged(no_data(id, span)));
@@ -105,7 +108,8 @@ fn read_piece<N: Nor>(
     ensures missing { IfErr result (IsMissing id) }
     ensures more { IfOk result (λ n. (done < n) × (n ≤ length into.old)) }
     ensures told { N.tells v.old.nor.now → (f : File) → Reading v.old.geometry (N.bytes v.old.nor.now) id f at done into.old →
-        index_page v.old.geometry (own (live_at v.old.geometry (N.bytes v.old.nor.now)) id) (index_span v.old.geometry ((at + done) / body v.old.geometry)) ≡ Some index →
+        index_page v.old.geometry (own (live_at v.old.geometry (N.bytes v.old.nor.now)) id) (index_span v.old.geometry ((at + done) / body v.old.geometry))
+        ≡ Some index →
         HoldsOrFault result (λ n. Reading v.old.geometry (N.bytes v.old.nor.now) id f at n into.new) }
 {
     let body = v.geometry.body();
@@ -141,7 +145,8 @@ fn read_named<N: Nor>(
     ensures missing { IfErr result (IsMissing id) }
     ensures more { IfOk result (λ n. (done < n) × (n ≤ length into.old)) }
     ensures told { N.tells v.old.nor.now → (f : File) → Reading v.old.geometry (N.bytes v.old.nor.now) id f at done into.old →
-        index_page v.old.geometry (own (live_at v.old.geometry (N.bytes v.old.nor.now)) id) (index_span v.old.geometry ((at + done) / body v.old.geometry)) ≡ Some index →
+        index_page v.old.geometry (own (live_at v.old.geometry (N.bytes v.old.nor.now)) id) (index_span v.old.geometry ((at + done) / body v.old.geometry))
+        ≡ Some index →
         HoldsOrFault result (λ n. Reading v.old.geometry (N.bytes v.old.nor.now) id f at n into.new) }
 {
     let g = v.geometry;
@@ -163,7 +168,8 @@ fn index_for<N: Nor>(v: &mut View<'_, N>, id: u16, header: u16, span: u32) -> Re
     ensures missing { IfErr result (IsMissing id) }
     ensures inside { IfOk result (λ page. page < page_count v.old.geometry) }
     ensures told { N.tells v.old.nor.now → (page : ℕ) → index_page v.old.geometry (own (live_at v.old.geometry (N.bytes v.old.nor.now)) id) 0 ≡ Some header →
-        index_page v.old.geometry (own (live_at v.old.geometry (N.bytes v.old.nor.now)) id) (index_span v.old.geometry span) ≡ Some page → HoldsOrFault result (λ found. found ≡ page) }
+        index_page v.old.geometry (own (live_at v.old.geometry (N.bytes v.old.nor.now)) id) (index_span v.old.geometry span) ≡ Some page →
+        HoldsOrFault result (λ found. found ≡ page) }
 {
     let which = wide_index_span(&v.geometry, span);
     if which == 0 {
@@ -229,7 +235,8 @@ pub fn read_from<N: Nor>(
     ensures looks { OnlyLooks v.old v.new }
     ensures missing { IfErr result (IsMissing id) }
     ensures within { IfOk result (λ n. (n ≤ length into.old) × (at + n < 2 ^ 32)) }
-    ensures told { N.tells v.old.nor.now → (f : File) → IsFileAt v.old.geometry (N.bytes v.old.nor.now) id header f → HoldsOrFault result (λ n. IsRead f at into.old into.new n) }
+    ensures told { N.tells v.old.nor.now → (f : File) → IsFileAt v.old.geometry (N.bytes v.old.nor.now) id header f →
+        HoldsOrFault result (λ n. IsRead f at into.old into.new n) }
 {
     let size = size_in(v, header)?;
     if at >= size {
@@ -254,7 +261,8 @@ pub fn read_at<N: Nor>(
     ensures looks { OnlyLooks v.old v.new }
     ensures missing { IfErr result (IsMissing id) }
     ensures within { IfOk result (λ n. (n ≤ length into.old) × (at + n < 2 ^ 32)) }
-    ensures told { N.tells v.old.nor.now → (f : File) → IsFileOf v.old.geometry (N.bytes v.old.nor.now) id f → HoldsOrFault result (λ n. IsRead f at into.old into.new n) }
+    ensures told { N.tells v.old.nor.now → (f : File) → IsFileOf v.old.geometry (N.bytes v.old.nor.now) id f →
+        HoldsOrFault result (λ n. IsRead f at into.old into.new n) }
 {
     match v.find_index(id, 0)? {
         Some(header) => read_from(v, id, header, at, into),

@@ -37,7 +37,8 @@ pub fn stat_at<N: Nor>(v: &mut View<'_, N>, id: u16, header: u16) -> Result<Opti
     ensures looks { OnlyLooks v.old v.new }
     ensures id { IfOk result (λ found. IfSome found (λ stat. stat.id ≡ id)) }
     ensures page { N.tells v.old.nor.now → IfOk result (λ stat. stat ≡ the_stat_in v.old.geometry (page_of v.old.geometry (N.bytes v.old.nor.now) header) id) }
-    ensures told { N.tells v.old.nor.now → (f : File) → IsFileAt v.old.geometry (N.bytes v.old.nor.now) id header f → IfOk result (λ stat. stat ≡ Some (stat_of f)) }
+    ensures told { N.tells v.old.nor.now → (f : File) → IsFileAt v.old.geometry (N.bytes v.old.nor.now) id header f →
+        IfOk result (λ stat. stat ≡ Some (stat_of f)) }
 {
     v.fetch(header)?;
     Ok(stat_in(&v.geometry, v.fetched(), id))

@@ -51,8 +51,10 @@ size_of pieces = sum_by length pieces
 -- So many bytes has the largest new file of a volume: one of up to so many is taken, whatever its name, flags and pieces, and one of more is
 -- refused as Full.
 pub record IsMost (g : Geometry) (s : State) (most : ℕ) : Type 0 where
-  pub taken : (name : List ℕ) (flags fd : ℕ) (pieces : List (List ℕ)) → IsNew s name flags fd → size_of pieces ≤ most → IsTaken (put_new g s name flags fd pieces)
-  pub refused : (name : List ℕ) (flags fd : ℕ) (pieces : List (List ℕ)) → IsNew s name flags fd → most < size_of pieces → IsFull (put_new g s name flags fd pieces)
+  pub taken : (name : List ℕ) (flags fd : ℕ) (pieces : List (List ℕ)) → IsNew s name flags fd → size_of pieces ≤ most →
+      IsTaken (put_new g s name flags fd pieces)
+  pub refused : (name : List ℕ) (flags fd : ℕ) (pieces : List (List ℕ)) → IsNew s name flags fd → most < size_of pieces →
+      IsFull (put_new g s name flags fd pieces)
 
 -- The largest new file of a volume. None: not even an empty one is taken.
 abbrev pub IsLargest : Geometry → State → Option ℕ → Type 0

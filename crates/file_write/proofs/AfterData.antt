@@ -21,7 +21,9 @@ use Rattle.free_search.specs.Had.{IsClear}
 use Rattle.free_search.proofs.HadBy.{less_had, put_had}
 use Rattle.renew_laws.specs.Primed.{Primed}
 use Rattle.renew_laws.proofs.PrimeBeside.{prime-data}
+use Rattle.renew_laws.specs.Tails.{HasFreeEntries}
 use Rattle.renew_laws.proofs.ReserveKept.{put-reserve}
+use Rattle.renew_laws.proofs.TailSteps.{tail-beside}
 use Rattle.renew_laws.proofs.Serves.{serves_data}
 use Rattle.renew_laws.proofs.Spans.{span-is_named}
 use Rattle.page_renew.specs.declared.edits.Edit.TheVariants.{GrowBy}
@@ -67,6 +69,13 @@ module _ (g : Geometry) (a : List ℕ) (id h size span : ℕ) (bytes : List ℕ)
     pub still_had : (n : ℕ) → are_had g a n 1 ≡ true → are_had g b n 0 ≡ true
     still_had n had = (put_had g a b p w.page n 0 (clear g a id h size bytes f can) still_clear w.put).1 w.found w.is.kind had
 
+    -- the entries behind the last span are free still
+    pub still_free : HasFreeEntries g (own (live_at g b) id) (data_pages g (size_of can.head))
+    still_free =
+        let kept = tail-beside g a b p id h w.page can.head f
+        (record { kind = of_data g a p w.page w.found.kind_is w.is.kind; data_kind = w.is.kind; of = w.is.of; at = can.prime.at; header = can.prime.header; file = can.prime.file }) w.put in
+        (kept id can.can.ready h can.head primed.at primed.header).entries
+
     pub reserve : HasReserve g a → HasReserve g b
     reserve = put-reserve g a b p w.found.keeps w.put.agree
 
@@ -89,6 +98,9 @@ module _ (g : Geometry) (a : List ℕ) (id h size span : ℕ) (bytes : List ℕ)
       later : data_pages g end ≡ size_of can.head / body g + 1
       later = ap (λ (n : ℕ). data_pages g n) (end_is ∙ ap (λ (n : ℕ). n + length bytes) can.told) ∙ next_page g (size_of can.head) (length bytes) (subst (λ (n : ℕ). n % body g ≡ 0) can.told whole) can.can.some fits
 
+      grown : end ≡ size_of can.head + length bytes
+      grown = end_is ∙ ap (λ (n : ℕ). n + length bytes) can.told
+
       -- the edited header page names it
       named : (y : List ℕ) → IsEdited g can.head (GrowBy end p) y → (entry_number g (own (live_at g b) id) y (size_of can.head / body g) ≡ Some p) × (data_page g (own (live_at g b) id) y (size_of can.head / body g) ≡ Some w.page)
       named y edited =
@@ -109,6 +121,8 @@ module _ (g : Geometry) (a : List ℕ) (id h size span : ℕ) (bytes : List ℕ)
           holds = (let zero : size_of can.head % body g ≡ 0 = subst (λ (n : ℕ). n % body g ≡ 0) can.told whole in let start : 5 ≡ 5 + size_of can.head % body g = omega (arith, zero) in subst (λ (n : ℕ). slice_range w.page n (n + length bytes) ≡ bytes) start w.is.holds);
           page = λ y edited. (named y edited).1;
         };
+        erased = λ k low inside. w.is.erased k (omega (arith, low)) inside;
+        free = λ r t k x there kind at high past. still_free r t k x there kind at high (let now = subst (λ (n : ℕ). data_pages g n ≤ t) (sym grown) past in omega (arith, now, later, count));
         serve = λ y edited r e.
             let here : r ≡ p = eqb-true r p e in
             let size_y : size_of y ≡ end = edited.size in

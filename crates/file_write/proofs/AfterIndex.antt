@@ -1,7 +1,7 @@
 -- The data page of an append is put, and the further index page that names it.
-use Rattle.std.proofs.Common.{◌≡◌, ◌≢◌, ℕ, ◌+◌, ◌-◌, ◌/◌, ◌%◌, ◌<◌, ◌≤◌, ◌⊎◌, List, length, Bool, true, false, ◌==◌, ◌||◌, Option, Some, None, ap, refl, sym, ◌∙◌, arith, subst, ⊎_elim, inr}
+use Rattle.std.proofs.Common.{◌≡◌, ◌≢◌, ℕ, ◌+◌, ◌-◌, ◌/◌, ◌%◌, ◌<◌, ◌≤◌, ◌⊎◌, List, length, slice_index, Bool, true, false, ◌==◌, ◌||◌, Option, Some, None, ap, refl, sym, ◌∙◌, arith, subst, ⊎_elim, inr}
 use Rattle.std.specs.Prelude.{is_some, nat_le, slice_range}
-use Rattle.std.proofs.lemmas.Bool.{eqb-true, eq-eqb, le-ltb, le-leb, or_cases}
+use Rattle.std.proofs.lemmas.Bool.{cases_eq, eqb-true, eq-eqb, le-ltb, le-leb, or_cases}
 use Rattle.std.proofs.lemmas.Option.{none-some, same_Some}
 use Rattle.geometry.specs.declared.geometry.Geometry.{Geometry}
 use Rattle.geometry.specs.Numbers.{body, head_slots, span_slots}
@@ -24,6 +24,7 @@ use Rattle.flash_view.specs.Steps.{Begins, Finishes}
 use Rattle.free_search.specs.Had.{IsClear}
 use Rattle.free_search.proofs.HadBy.{put_had}
 use Rattle.renew_laws.specs.Primed.{Primed}
+use Rattle.renew_laws.specs.Tails.{HasFreeEntries}
 use Rattle.renew_laws.proofs.PrimeBeside.{prime-index}
 use Rattle.renew_laws.proofs.PrimePlaces.{primed-places}
 use Rattle.renew_laws.proofs.ReserveKept.{put-reserve}
@@ -34,10 +35,11 @@ use Rattle.page_renew.specs.Edits.{IsEdited}
 use Rattle.page_renew.specs.PageSteps.{StepCut}
 use Rattle.page_renew.specs.Renewals.{renewing_from}
 use Rattle.page_renew.proofs.Homes.{index_some, of_kind}
+use Rattle.page_renew.proofs.SlotNames.{slots_rise}
 use Rattle.file_write.specs.Appends.{CanAppendAt, index_needed, indexing_data, appending_at}
 use Rattle.file_write.specs.Beside.{HasPage, AddsPage, AddedPage, adding, is_data, is_further}
 use Rattle.file_write.proofs.AppendEnds.{primed_clear, IsReady, kept, ends}
-use Rattle.file_write.proofs.AfterData.{data_begins, primed, its_page, still_clear, still_had, reserve}
+use Rattle.file_write.proofs.AfterData.{data_begins, primed, its_page, still_clear, still_free, still_had, reserve}
 use Rattle.file_write.proofs.LastPage.{one_each, page_fits}
 use Rattle.file_write.proofs.Sizes.{whole_pages, next_page, span_behind, span_within}
 
@@ -174,6 +176,20 @@ module _ (g : Geometry) (a : List ℕ) (id h size span s p end : ℕ) (bytes : L
           subst (λ (k : ℕ). serves g (own (live_at g c) id) y k ≡ true) (sym (eqb-true x r here)) (serves_index g (own (live_at g c) id) y r s below found))
           (or_cases _ _ e)
 
+      -- the entries behind it are free
+      free : HasFreeEntries g (own (live_at g c) id) (data_pages g (size_of can.head + length bytes))
+      free x t k page is_x kind at_x high past low below =
+          let now : span + 1 ≤ t = let n = subst (λ (m : ℕ). data_pages g m ≤ t) (sym (end_is ∙ ap (λ (m : ℕ). m + length bytes) can.told)) past in omega (arith, n, later) in
+          ⊎_elim
+          (λ (here : x ≡ r).
+          let same : w.page ≡ page = same_Some w.page page (sym index_c ∙ ap (own (live_at g c) id) (sym here) ∙ is_x) in
+          let spans : further g span ≡ further g t = sym s_further ∙ sym w.is.at ∙ ap span_of same ∙ at_x in
+          let step = slots_rise g span t far (omega (arith, now)) spans in
+          ap (λ (l : List ℕ). slice_index l k) (sym same) ∙ w.is.erased k (omega (arith, step, low, now)) below)
+          (λ (other : x ≡ r → ⊥).
+          still_free g a id h size span bytes f can b p q x t k page (sym (own-live (live_at g b) (live_at g c) id x (w.put.gains.others x other)) ∙ is_x) kind at_x high (omega (arith, now, count)) low below)
+          (cases_eq x r)
+
       ready : IsReady g a id h size bytes f can c (Grow end)
       ready = record {
         beside = two;
@@ -188,6 +204,8 @@ module _ (g : Geometry) (a : List ℕ) (id h size span s p end : ℕ) (bytes : L
           holds = (let start : 5 ≡ 5 + size_of can.head % body g = omega (arith, none) in subst (λ (n : ℕ). slice_range q.page n (n + length bytes) ≡ bytes) start q.is.holds);
           page = λ y edited. subst (λ (t : ℕ). data_page g (own (live_at g c) id) y t ≡ Some q.page) at_t (named y).1;
         };
+        erased = λ k low below. q.is.erased k (omega (arith, low)) below;
+        free = free;
         serve = serving;
         had = (put_had g b c r w.page 1 0 clear_b (primed_clear g a c id h can.head f two law.0) w.put).0 w.found w.is.kind (still_had g a id h size span bytes f can b p q 2 two_each);
         reserve = λ before. put-reserve g b c r w.found.keeps w.put.agree (reserve_b before);

@@ -2,7 +2,7 @@
 use Rattle.std.proofs.Common.{◌≡◌, ◌≢◌, ℕ, zero, suc, ◌+◌, ◌-◌, ◌*◌, ◌/◌, ◌%◌, ◌<◌, ◌≤◌, List, length, drop, get_or, Bool, true, false, ◌==◌, ◌||◌, Some, ap, refl, sym, ◌∙◌, arith, subst, ⊎_elim, inr}
 use Rattle.std.specs.Int.{to_le_bytes, w16}
 use Rattle.std.specs.Prelude.{Option, is_some, slice_index, slice_range, option_and_then}
-use Rattle.std.proofs.lemmas.Bool.{eqb-true, eq-eqb, le-ltb}
+use Rattle.std.proofs.lemmas.Bool.{cases_eq, eqb-true, eq-eqb, le-ltb}
 use Rattle.std.proofs.lemmas.List.{get_or-take, get_or-drop}
 use Rattle.std.proofs.lemmas.Option.{none-some, same_Some}
 use Rattle.geometry.specs.declared.geometry.Geometry.{Geometry}
@@ -28,16 +28,21 @@ use Rattle.image_laws.proofs.Finish.{own-parts}
 use Rattle.image_laws.proofs.Finished.{finished-programmed}
 use Rattle.image_laws.proofs.Frames.{live_parts}
 use Rattle.image_laws.proofs.Judge.{index_passes}
-use Rattle.image_laws.proofs.Placing.{wider}
+use Rattle.image_laws.proofs.Placing.{page_byte, wider}
 use Rattle.image_laws.proofs.Sounding.{keeps-on}
 use Rattle.trim_laws.specs.Trim.{Trims}
+use Rattle.trim_laws.specs.Wear.{SameWear, Worn}
 use Rattle.trim_laws.proofs.Trims.{inside_trims}
+use Rattle.trim_laws.proofs.Wears.{inside_keeps, upkeep_same, worn_same}
 use Rattle.trim_laws.proofs.Pages.{further_not_head}
 use Rattle.flash_view.specs.declared.kinds.Kind.TheVariants.{Data}
 use Rattle.flash_view.specs.Steps.{Begins, Finishes, making}
+use Rattle.page_put.specs.Recount.{IsUsedPage}
+use Rattle.page_put.proofs.UsedPages.{live_used}
 use Rattle.free_search.proofs.HadBy.{in_place_had}
 use Rattle.renew_laws.specs.Primed.{Primed, ChangesInPlace}
-use Rattle.renew_laws.proofs.EntryInPlace.{slot_word-at, slot-fits}
+use Rattle.renew_laws.specs.Tails.{HasFreeEntries}
+use Rattle.renew_laws.proofs.EntryInPlace.{slot-fits}
 use Rattle.renew_laws.proofs.Holding.{name-holds}
 use Rattle.renew_laws.proofs.PrimeInPlace.{prime-name}
 use Rattle.renew_laws.proofs.PrimePlaces.{primed-places}
@@ -47,10 +52,11 @@ use Rattle.page_renew.specs.declared.edits.Edit.TheVariants.{Grow}
 use Rattle.page_renew.specs.PageSteps.{StepCut}
 use Rattle.page_renew.specs.Renewals.{renewing_from}
 use Rattle.page_renew.proofs.Homes.{index_some}
+use Rattle.page_renew.proofs.SlotNames.{slots_rise}
 use Rattle.file_write.specs.Appends.{CanAppendAt, CanName, IsSlotPage, naming_at, naming_data, appending_at}
 use Rattle.file_write.specs.Beside.{AddedPage, adding, is_data}
 use Rattle.file_write.proofs.AppendEnds.{primed_clear, IsReady, kept, ends}
-use Rattle.file_write.proofs.AfterData.{data_begins, primed, its_page, still_clear, still_had, reserve}
+use Rattle.file_write.proofs.AfterData.{data_begins, primed, its_page, still_clear, still_free, still_had, reserve}
 use Rattle.file_write.proofs.LastPage.{one_each, page_fits}
 use Rattle.file_write.proofs.Sizes.{page_few, whole_pages, next_page}
 
@@ -65,10 +71,6 @@ le_small n small (suc (suc k)) within = absurd (omega (arith, within))
 
 le_two : (n : ℕ) → length (to_le_bytes w16 n) ≡ 2
 le_two n = refl
-
--- a word of ones is two bytes of ones
-ones_apart : (x y : ℕ) → x < 256 → y < 256 → x + 256 * y ≡ 0xFFFF → (x ≡ 0xFF) × (y ≡ 0xFF)
-ones_apart x y low high word = (omega (arith, low, high, word), omega (arith, low, high, word))
 
 module _ (g : Geometry) (a : List ℕ) (id h size w span p end : ℕ) (bytes : List ℕ) (f : File) (is : IsImage g a) (can : CanName g a id h size w bytes f) (span_is : span ≡ size / body g) (whole : size % body g ≡ 0) (far : head_slots g ≤ span) (end_is : end ≡ size + length bytes) where
   abbrev at : CanAppendAt g a id h size bytes f
@@ -104,16 +106,15 @@ module _ (g : Geometry) (a : List ℕ) (id h size w span p end : ℕ) (bytes : L
   x_page : page_of g a w ≡ there.0
   x_page = (live_parts g a w there.0 (own-parts (live_at g a) id w there.0 there.1).0).bytes
 
-  clean : slot_word g there.0 span ≡ 0xFFFF
-  clean =
-      let page : option_and_then (own (live_at g a) id) (index_page g (own (live_at g a) id) (further g (data_pages g (size_of at.head)))) ≡ Some there.0 = rw (count, sym further_is, first) there.1 in
-      subst (λ (t : ℕ). slot_word g there.0 t ≡ 0xFFFF) count ((at.can.ready h at.head at.prime.at at.prime.header).entry there.0 (rw count far) page)
+  -- its entries from this one on are free
+  free_a : (t k : ℕ) → span ≤ t → further g t ≡ further g span → slot_at g t ≤ k → k < g.page → slice_index there.0 k ≡ 0xFF
+  free_a t k past same low below =
+      (at.can.ready h at.head at.prime.at at.prime.header).entries w t k there.0 there.1 there.2 (there.3 ∙ further_is ∙ sym same) (omega (arith, far, past)) (omega (arith, count, past)) low below
 
   ones : (slice_index there.0 (slot_at g span) ≡ 0xFF) × (slice_index there.0 (slot_at g span + 1) ≡ 0xFF)
   ones =
-      let small : (k : ℕ) → k < 2 → slice_index there.0 (slot_at g span + k) < 256 = λ k within. subst (λ (x : List ℕ). slice_index x (slot_at g span + k) < 256) x_page (subst (λ (t : ℕ). slice_index (page_of g a w) (slot_at g t + k) < 256) (sym span_is) (can.slot.small k within)) in
-      let zero_in : slot_at g span + 0 ≡ slot_at g span = omega arith in
-      ones_apart (slice_index there.0 (slot_at g span)) (slice_index there.0 (slot_at g span + 1)) (subst (λ (k : ℕ). slice_index there.0 k < 256) zero_in (small 0 (omega arith))) (small 1 (omega arith)) (sym (slot_word-at g there.0 span) ∙ clean)
+      let inside = slot-fits g span (sizes g).page in
+      (free_a span (slot_at g span) (omega arith) refl (omega arith) (omega (arith, inside)), free_a span (slot_at g span + 1) (omega arith) refl (omega arith) (omega (arith, inside)))
 
   -- the data page is put first
   pub name_starts : Begins g a (adding Data (is_data id span bytes)) (naming_data id h size w span p bytes f)
@@ -185,6 +186,25 @@ module _ (g : Geometry) (a : List ℕ) (id h size w span p end : ℕ) (bytes : L
       named y = span-is_named g (own (live_at g c) id) y span p q.page
           (inr (far, w, page_of g c w, ap (λ (j : ℕ). index_page g (own (live_at g c) id) j) (sym further_is) ∙ (law c torn).3.places (index_span g span) ∙ first_b, (law c torn).3.now, slot)) its_c q.is.kind q.is.at
 
+      -- the entries behind it are free still
+      free : HasFreeEntries g (own (live_at g c) id) (data_pages g (size_of at.head + length bytes))
+      free r t k x is_x kind at_x high past low below =
+          let now : span + 1 ≤ t = let n = subst (λ (m : ℕ). data_pages g m ≤ t) (sym (end_is ∙ ap (λ (m : ℕ). m + length bytes) at.told)) past in omega (arith, n, later) in
+          ⊎_elim
+          (λ (here : r ≡ w).
+          let page : page_of g c w ≡ x = same_Some (page_of g c w) x (sym (law c torn).3.now ∙ ap (own (live_at g c) id) (sym here) ∙ is_x) in
+          let passes = index_passes g (own (live_at g c) id) (index_span g span) w ((law c torn).3.places (index_span g span) ∙ first_b) in
+          let y = index_some (own (live_at g c) id w) (index_span g span) passes in
+          let same : y.0 ≡ x = same_Some y.0 x (sym y.1 ∙ (law c torn).3.now ∙ ap (λ (l : List ℕ). Some l) page) in
+          let spans : further g t ≡ further g span = sym at_x ∙ ap span_of (sym same) ∙ y.3 ∙ further_is in
+          let step = slots_rise g span t far (omega (arith, now)) (sym spans) in
+          let b_page : page_of g b w ≡ there.0 = (live_parts g b w there.0 (own-parts (live_at g b) id w there.0 x_still).0).bytes in
+          ap (λ (l : List ℕ). slice_index l k) (sym page) ∙ page_byte g c w k below ∙ torn.outside.after (w * g.page + k) (omega (arith, step, low, now, le_two p)) ∙ sym (page_byte g b w k below)
+          ∙ ap (λ (l : List ℕ). slice_index l k) b_page ∙ free_a t k (omega (arith, now)) spans low below)
+          (λ (other : r ≡ w → ⊥).
+          still_free g a id h size span bytes f at b p q r t k x (sym ((law c torn).3.others r other) ∙ is_x) kind at_x high (omega (arith, now, count)) low below)
+          (cases_eq r w)
+
       ready : IsReady g a id h size bytes f at c (Grow end)
       ready = record {
         beside = one;
@@ -199,6 +219,8 @@ module _ (g : Geometry) (a : List ℕ) (id h size w span p end : ℕ) (bytes : L
           holds = (let start : 5 ≡ 5 + size_of at.head % body g = omega (arith, none) in subst (λ (n : ℕ). slice_range q.page n (n + length bytes) ≡ bytes) start q.is.holds);
           page = λ y edited. subst (λ (t : ℕ). data_page g (own (live_at g c) id) y t ≡ Some q.page) at_t (named y).1;
         };
+        erased = λ k low below. q.is.erased k (omega (arith, low)) below;
+        free = free;
         serve = λ y edited r e.
             let here : r ≡ p = eqb-true r p e in
             let size_y : size_of y ≡ end = edited.size in
@@ -220,9 +242,23 @@ module _ (g : Geometry) (a : List ℕ) (id h size w span p end : ℕ) (bytes : L
         let more : span_of there.0 ≡ 0 → ⊥ = λ zero. omega (arith, zero, there.3, further_is) in
         inside_trims g b c w (w * g.page + slot_at g span) there.0 asked prime.image (own-parts (live_at g b) id w there.0 x_still).0 (further_not_head there.0 more) (omega (arith, behind)) (omega (arith, inside, le_two p)) torn
 
+    -- all erase counts stay
+    named_wear : (c : List ℕ) → HalfProgrammed (w * g.page + slot_at g span) asked b c → SameWear g b c
+    named_wear c torn =
+        let inside = slot-fits g span (sizes g).page in
+        inside_keeps g b c w (w * g.page + slot_at g span) (length asked) (live_parts g b w there.0 (own-parts (live_at g b) id w there.0 x_still).0).entry_page (omega arith) (omega (arith, inside, le_two p)) torn.outside
+
     -- the entry is programmed behind it
-    pub name_goes : Finishes g a b (making (λ k. HalfProgrammed (w * k.page + slot_at k span) asked) (λ k was. programmed was (w * k.page + slot_at k span) asked)) (naming_data id h size w span p bytes f)
-    name_goes = record { needs = named_trims; cut = λ c torn. name_cut c torn; done = λ c ok now. (b, q, now) }
+    pub name_goes : Finishes g a b (making (λ k l. IsUsedPage k l w) (λ k. HalfProgrammed (w * k.page + slot_at k span) asked) (λ k was. programmed was (w * k.page + slot_at k span) asked)) (naming_data id h size w span p bytes f)
+    name_goes = record {
+      needs = (
+        live_used g b w there.0 (own-parts (live_at g b) id w there.0 x_still).0,
+        (λ c torn. upkeep_same g b c (named_trims c torn) (named_wear c torn)),
+        λ c now. subst (λ (l : List ℕ). Worn g b l) (sym now) (worn_same g b _ (named_wear _ (half_programmed b (w * g.page + slot_at g span) asked))),
+      );
+      cut = λ c torn. name_cut c torn;
+      done = λ c ok now. (b, q, now);
+    }
 
   -- both begin the append
   pub name_begins : Begins g a (naming_data id h size w span p bytes f) (naming_at id h size w bytes f)

@@ -2,12 +2,15 @@
 use Rattle.std.proofs.Common.{◌≡◌, ℕ, ◌+◌, ◌-◌, ◌*◌, ◌/◌, ◌%◌, ◌<◌, ◌≤◌, List, length, false, Some, None, refl, sym, ◌∙◌, ap, arith, inl, subst, ⊎_elim}
 use Rattle.std.proofs.Math.Nat.{div-add-mod, mul-le-mul_left, mul_comm}
 use Rattle.std.proofs.lemmas.Bool.{cases_lt}
+use Rattle.std.proofs.lemmas.Option.{same_Some}
 use Rattle.geometry.specs.declared.geometry.Geometry.{Geometry}
 use Rattle.geometry.specs.Numbers.{body, ceil}
 use Rattle.table_model.specs.Table.{File, put_file}
 use Rattle.table_model.specs.Files.{written}
 use Rattle.table_model.specs.Room.{data_pages}
 use Rattle.image_model.specs.Headers.{size_of}
+use Rattle.image_model.specs.Files.{index_page}
+use Rattle.image_model.specs.Live.{live_at, own}
 use Rattle.image_model.specs.Places.{IsImage}
 use Rattle.image_model.specs.Tables.{table_of}
 use Rattle.image_model.specs.Within.{sizes}
@@ -15,6 +18,7 @@ use Rattle.image_laws.proofs.Sounding.{keeps-itself}
 use Rattle.image_laws.proofs.SpareKill.{tidy-has_magics}
 use Rattle.image_laws.proofs.TidySteps.{tidy-is_tidy}
 use Rattle.renew_laws.specs.Primed.{Primed}
+use Rattle.renew_laws.specs.Tails.{IsTailReady}
 use Rattle.flash_view.specs.Steps.{Finishes}
 use Rattle.page_renew.specs.PageSteps.{StepCut, StepDone}
 use Rattle.page_renew.specs.declared.finding.Found.{Found}
@@ -83,7 +87,17 @@ module _ (g : Geometry) (a : List ℕ) (id size at : ℕ) (bytes : List ℕ) (f 
     patches = record {
       needs = can_patch;
       cut = λ c cut. subst (λ (n : ℕ). StepCut g (put_file (written n bytes f) (table_of g a)) a c) place cut;
-      done = λ c ok done. subst (λ (n : ℕ). StepDone g (put_file (written n bytes f) (table_of g a)) a c) place done.step;
+      done = λ c ok done.
+          -- the same file, by its header page
+          let at_same : can.home.h ≡ done.can.h = same_Some can.home.h done.can.h (sym can.home.prime.at ∙ subst (λ (n : ℕ). index_page g (own (live_at g a) n) 0 ≡ Some done.can.h) id_is done.can.prime.at) in
+          let same : can.home.head ≡ done.can.head =
+          same_Some can.home.head done.can.head (sym can.home.prime.header ∙ ap (own (live_at g a) id) at_same ∙ subst (λ (n : ℕ). own (live_at g a) n done.can.h ≡ Some done.can.head) id_is done.can.prime.header) in
+          let size_is : size_of done.can.head ≡ length f.bytes = ap size_of (sym same) ∙ sym can.home.long in
+          record {
+            step = subst (λ (n : ℕ). StepDone g (put_file (written n bytes f) (table_of g a)) a c) place done.step;
+            ready = λ here more. subst (λ (n : ℕ). IsTailReady g c n) id_is (done.ready (rw size_is (sym here ∙ sym is.0), λ e. more (ap (λ (n : ℕ). n % body g) (sym size_is) ∙ e)));
+            kept = λ ready. subst (λ (n : ℕ). IsTailReady g c n) id_is (done.kept (subst (λ (n : ℕ). IsTailReady g a n) (sym id_is) ready));
+          };
     }
 
 pub over_home : (g : Geometry) (a : List ℕ) (id at : ℕ) (bytes : List ℕ) (f : File) → IsImage g a → CanOverwrite g a id at bytes f → (found : Found) → IsHome g a id (Some found) → Finishes g a a (overwriting_in id found.size at bytes f) (overwriting id at bytes f)

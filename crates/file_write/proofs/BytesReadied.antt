@@ -4,18 +4,17 @@ use Rattle.std.specs.Prelude.{is_some, unwrap_or, option_and_then}
 use Rattle.std.proofs.Math.Nat.{div-add-mod, mul_comm}
 use Rattle.std.proofs.lemmas.Option.{same_Some}
 use Rattle.geometry.specs.declared.geometry.Geometry.{Geometry}
-use Rattle.geometry.specs.Numbers.{body, head_slots}
+use Rattle.geometry.specs.Numbers.{body}
 use Rattle.table_model.specs.Table.{File, file_of, has_id, put_file}
 use Rattle.table_model.specs.Files.{written}
 use Rattle.table_model.specs.Room.{data_pages}
 use Rattle.image_model.specs.declared.damage.Damage.{Damage}
 use Rattle.image_model.specs.Headers.{size_of}
 use Rattle.image_model.specs.Live.{live_at, own}
-use Rattle.image_model.specs.Files.{index_page, further}
+use Rattle.image_model.specs.Files.{index_page}
 use Rattle.image_model.specs.Places.{IsImage}
 use Rattle.image_model.specs.Tables.{has_of, table_of}
 use Rattle.image_model.specs.Tidy.{IsTidy}
-use Rattle.image_laws.specs.Reindex.{slot_word}
 use Rattle.image_laws.proofs.Judge.{found_from}
 use Rattle.image_laws.proofs.Sounding.{keeps-itself}
 use Rattle.image_laws.proofs.SpareKill.{tidy-has_magics}
@@ -33,7 +32,7 @@ use Rattle.file_write.specs.Relinkings.{CanPatch, HasPatch, IsFileAt, replacing}
 use Rattle.file_write.proofs.CopyPut.{no_file}
 use Rattle.file_write.proofs.FileHomes.{no_home, home_at}
 use Rattle.file_write.proofs.Sizes.{last_below}
-use Rattle.file_write.proofs.TailLooks.{ones_clean}
+use Rattle.file_write.proofs.TailLooks.{tail_ready}
 
 -- ---- what stands
 
@@ -96,12 +95,7 @@ module _ (g : Geometry) (a : List ℕ) (id size : ℕ) (f : File) (can : CanRead
   pub ready_now : HasOnes g a id size → IsStale g a id size None → Readied g id a a
   ready_now ones free = record {
     step = record { tidy = can.can.tidy; table = refl; reserve = λ two. two };
-    ready = λ h head at header.
-        let told : size ≡ size_of head = home.told ∙ ap size_of (head_same h head at header) in
-        record {
-          bytes = ones_clean g a id size h head at header told ones;
-          entry = subst (λ (n : ℕ). (page : List ℕ) → head_slots g ≤ data_pages g n → option_and_then (own (live_at g a) id) (index_page g (own (live_at g a) id) (further g (data_pages g n))) ≡ Some page → slot_word g page (data_pages g n) ≡ 0xFFFF) told free;
-        };
+    ready = tail_ready g a id size f home ones free;
   }
 
   -- ---- its last data page is replaced

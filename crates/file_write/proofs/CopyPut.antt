@@ -37,6 +37,7 @@ use Rattle.renew_laws.proofs.Beside.{beside-index, beside-entry}
 use Rattle.renew_laws.proofs.PrimeBeside.{prime-data}
 use Rattle.renew_laws.proofs.PutBeside.{gains_own}
 use Rattle.renew_laws.proofs.ReserveKept.{put-reserve}
+use Rattle.renew_laws.proofs.TailSteps.{tail-beside}
 use Rattle.page_put.specs.Placing.{placed_page}
 use Rattle.page_put.specs.LivePages.{finished_page, putting}
 use Rattle.page_renew.specs.PageSteps.{StepCut}
@@ -190,6 +191,9 @@ module _ (g : Geometry) (a : List ℕ) (patch : Patch) (spot : Spot) (to : ℕ) 
         patched = patched;
         had = (put_had g a b to new 1 0 (patch_clear g a patch bytes f at.can) (primed_clear g a b patch.id at.can.h at.can.head f (λ r. r == to) prime) put).1 can.found page_is.names at.can.had;
         reserve = put-reserve g a b to can.found.keeps put.agree;
+        tails = tail-beside g a b to patch.id at.can.h new at.can.head f
+            (record { kind = kind; data_kind = page_is.names; of = page_is.of; at = at.can.prime.at; header = at.can.prime.header; file = at.can.prime.file })
+            put;
         flags = flags_stay g a b to spot.page named.z put.agree live q_apart built.flags;
       }
 

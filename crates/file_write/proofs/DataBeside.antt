@@ -42,15 +42,18 @@ module _ (g : Geometry) (a : List ℕ) (to : ℕ) (kind : Kind) (id span : ℕ) 
     done = λ c ok put. (new, holds, put);
   }
 
-pub puts_data : (g : Geometry) (a : List ℕ) (to id span : ℕ) (bytes page rest : List ℕ) → length page ≡ g.page → slice_range page 5 (5 + length bytes) ≡ bytes → ((k : ℕ) → slice_index page k < 256) → (1 ≤ id) × (id ≤ 0x7FFE) → span < 65536 → IsFreePage g a to →
-    Finishes g a a (putting to Data (record { id = id; span = span }) (page ++ rest)) (putting_one to (is_data id span bytes))
-puts_data g a to id span bytes page rest len holds small range word free =
-    let w = is g a to Data id span page rest len small range word in
-    puts_one g a to Data id span page rest len small range word (is_data id span bytes) (record { kind = w.names; of = w.of; at = w.span; holds = ap (take (5 + length bytes - 5)) w.rest ∙ holds }) (data_trims g (new g a to Data id span page rest len small range word) w.names) free
-
 -- the bytes behind the header are those that were built
 same_behind : (x y : List ℕ) → drop 5 x ≡ drop 5 y → (k : ℕ) → slice_index x (5 + k) ≡ slice_index y (5 + k)
 same_behind x y same k = sym (get_or-drop 5 x k 0) ∙ ap (λ (l : List ℕ). slice_index l k) same ∙ get_or-drop 5 y k 0
+
+same_at : (x y : List ℕ) → drop 5 x ≡ drop 5 y → (k : ℕ) → 5 ≤ k → slice_index x k ≡ slice_index y k
+same_at x y same k low = let place : 5 + (k - 5) ≡ k = omega (arith, low) in subst (λ (i : ℕ). slice_index x i ≡ slice_index y i) place (same_behind x y same (k - 5))
+
+pub puts_data : (g : Geometry) (a : List ℕ) (to id span : ℕ) (bytes page rest : List ℕ) → length page ≡ g.page → slice_range page 5 (5 + length bytes) ≡ bytes → ((k : ℕ) → 5 + length bytes ≤ k → k < length page → slice_index page k ≡ 0xFF) → ((k : ℕ) → slice_index page k < 256) → (1 ≤ id) × (id ≤ 0x7FFE) → span < 65536 → IsFreePage g a to →
+    Finishes g a a (putting to Data (record { id = id; span = span }) (page ++ rest)) (putting_one to (is_data id span bytes))
+puts_data g a to id span bytes page rest len holds erased small range word free =
+    let w = is g a to Data id span page rest len small range word in
+    puts_one g a to Data id span page rest len small range word (is_data id span bytes) (record { kind = w.names; of = w.of; at = w.span; holds = ap (take (5 + length bytes - 5)) w.rest ∙ holds; erased = λ k low below. same_at (new g a to Data id span page rest len small range word) page w.rest k (omega (arith, low)) ∙ erased k low (omega (arith, below, len)) }) (data_trims g (new g a to Data id span page rest len small range word) w.names) free
 
 same_slot : (g : Geometry) (x y : List ℕ) (t n : ℕ) → slot_at g t ≡ 5 + n → drop 5 x ≡ drop 5 y → slot_word g x t ≡ slot_word g y t
 same_slot g x y t n place same =
@@ -59,13 +62,13 @@ same_slot g x y t n place same =
     let second : slice_index x (slot_at g t + 1) ≡ slice_index y (slot_at g t + 1) = subst (λ (k : ℕ). slice_index x k ≡ slice_index y k) next (same_behind x y same (n + 1)) in
     slot_word-at g x t ∙ rw (first, second) (sym (slot_word-at g y t))
 
-pub puts_index : (g : Geometry) (a : List ℕ) (to id span t p : ℕ) (page rest : List ℕ) → length page ≡ g.page → slot_word g page t ≡ p → ((k : ℕ) → slice_index page k < 256) → (1 ≤ id) × (id ≤ 0x7FFE) → span < 65536 → 0 < span → IsFreePage g a to →
+pub puts_index : (g : Geometry) (a : List ℕ) (to id span t p : ℕ) (page rest : List ℕ) → length page ≡ g.page → slot_word g page t ≡ p → ((k : ℕ) → slot_at g t + 2 ≤ k → k < g.page → slice_index page k ≡ 0xFF) → ((k : ℕ) → slice_index page k < 256) → (1 ≤ id) × (id ≤ 0x7FFE) → span < 65536 → 0 < span → IsFreePage g a to →
     Finishes g a a (putting to Index (record { id = id; span = span }) (page ++ rest)) (putting_one to (is_further id span t p))
-puts_index g a to id span t p page rest len slot small range word some free =
+puts_index g a to id span t p page rest len slot erased small range word some free =
     let w = is g a to Index id span page rest len small range word in
     let place : slot_at g t ≡ 5 + (slot_at g t - 5) = slot_behind g t in
     puts_one g a to Index id span page rest len small range word (is_further id span t p)
-    (record { kind = w.names; of = w.of; at = w.span; slot = same_slot g (new g a to Index id span page rest len small range word) page t (slot_at g t - 5) place w.rest ∙ slot }) (further_trims g (new g a to Index id span page rest len small range word) (λ zero. omega (arith, w.span, zero, some))) free
+    (record { kind = w.names; of = w.of; at = w.span; slot = same_slot g (new g a to Index id span page rest len small range word) page t (slot_at g t - 5) place w.rest ∙ slot; erased = λ k low below. same_at (new g a to Index id span page rest len small range word) page w.rest k (omega (arith, low, place)) ∙ erased k low below }) (further_trims g (new g a to Index id span page rest len small range word) (λ zero. omega (arith, w.span, zero, some))) free
   where
     slot_behind : (g : Geometry) (t : ℕ) → slot_at g t ≡ 5 + (slot_at g t - 5)
     slot_behind g t = behind_of (nat_lt t (head_slots g))

@@ -1,9 +1,9 @@
 -- The index page is renewed to name the copy of a data page.
 use Rattle.std.proofs.Common.{◌≡◌, ◌≢◌, ℕ, ◌+◌, ◌-◌, ◌*◌, ◌/◌, ◌%◌, ◌<◌, ◌≤◌, List, length, take, set, slice_index, true, false, ◌==◌, Some, None, ap, refl, sym, ◌∙◌, arith, ⊎_elim, inl, inr, subst}
 use Rattle.std.specs.Prelude.{is_some}
-use Rattle.std.proofs.lemmas.Bool.{eqb-true, le-ltb}
+use Rattle.std.proofs.lemmas.Bool.{cases_eq, cases_lt, eqb-true, eq-eqb, ne_eqb}
 use Rattle.std.proofs.lemmas.List.{set-set}
-use Rattle.std.proofs.lemmas.Option.{none-some, same_Some, option_and_then_some}
+use Rattle.std.proofs.lemmas.Option.{none-some, same_Some}
 use Rattle.geometry.specs.declared.geometry.Geometry.{Geometry}
 use Rattle.geometry.specs.Numbers.{body, head_slots}
 use Rattle.table_model.specs.declared.error.Tag.{Tag}
@@ -20,11 +20,11 @@ use Rattle.free_search.proofs.Had.{page_had}
 use Rattle.image_model.specs.Within.{sizes, page_length}
 use Rattle.image_model.specs.Headers.{obj_id, names_index, span_of, size_of}
 use Rattle.image_model.specs.Live.{Live, live_at, own}
-use Rattle.image_model.specs.Files.{index_page, further, index_span}
+use Rattle.image_model.specs.Files.{index_page, further, data_page, index_span, slot_at}
 use Rattle.image_model.specs.Kinds.{is_index_page}
 use Rattle.image_model.specs.Sound.{HasMagics}
 use Rattle.image_model.specs.Tables.{table_of}
-use Rattle.image_laws.specs.Reindex.{slot_word, now_data}
+use Rattle.image_laws.specs.Reindex.{now_data}
 use Rattle.image_laws.proofs.Finish.{own-parts}
 use Rattle.image_laws.proofs.Frames.{live_parts}
 use Rattle.image_laws.proofs.Judge.{index_passes}
@@ -33,7 +33,7 @@ use Rattle.image_laws.proofs.SpareKill.{tidy-has_magics}
 use Rattle.renew_laws.specs.Recopy.{RecopiesTo}
 use Rattle.renew_laws.specs.Relink.{Relinks, IsRelinked}
 use Rattle.renew_laws.specs.Replace.{ReplaceCut, Replaced}
-use Rattle.renew_laws.specs.Tails.{HasCleanEntry, IsTailReady}
+use Rattle.renew_laws.specs.Tails.{IsTailReady, FreesEntries}
 use Rattle.renew_laws.proofs.PrimePlaces.{tail-together}
 use Rattle.renew_laws.proofs.RecopyCuts.{recopy-cuts}
 use Rattle.renew_laws.proofs.Relinking.{relink-recopies, relink-reads, relink-ends}
@@ -205,40 +205,53 @@ module _ (g : Geometry) (was image : List ℕ) (patch : Patch) (spot : Spot) (to
   abbrev n : ℕ
   n = data_pages g (size_of at.head)
 
-  module _ (b : List ℕ) (all : Replaced g p spot.index new image b) (ends : EndsIn g (size_of at.head) patch.span) where
-    some : 0 < size_of at.head % body g
-    some = let more = ends.1 in ⊎_elim (λ (x : 0 < size_of at.head % body g). x) (λ (x : size_of at.head % body g ≤ 0). absurd (more (omega (arith, x)))) (Rattle.std.proofs.lemmas.Bool.cases_lt 0 (size_of at.head % body g))
+  reads : (now_data g pages at.head new patch.span ≡ Some can.has.copy) × (span_of old ≡ index_span g patch.span) × ((t : ℕ) → t < n → t ≢ patch.span → now_data g pages at.head new t ≡ data_page g pages at.head t)
+  reads = relink-reads g was image patch.id at.h patch.span spot.index spot.page to p patch.from patch.used at.head copied.0 old new can.has.old can.has.copy bytes f (λ r. r == to) start
 
-    last : n ≡ patch.span + 1
-    last = last_below g (size_of at.head) some ∙ ap (λ (k : ℕ). k + 1) ends.0
+  clean : EndsIn g (size_of at.head) patch.span → (z : List ℕ) → size_of at.head % body g ≢ 0 → now_data g pages at.head new (size_of at.head / body g) ≡ Some z → (k : ℕ) → 5 + size_of at.head % body g ≤ k → k < g.page → slice_index z k ≡ 0xFF
+  clean ends z more there k low high =
+      let same : z ≡ can.has.copy = same_Some z can.has.copy (sym there ∙ ap (now_data g pages at.head new) ends.0 ∙ reads.0) in
+      let least = at.least ends in
+      let place : 5 + (k - 5) ≡ k = omega (arith, low) in
+      let ones : slice_index can.has.copy (5 + (k - 5)) ≡ 0xFF = can.has.patched.erased (k - 5) (omega (arith, low, least)) (omega (arith, low, high)) in
+      subst (λ (l : List ℕ). slice_index l k ≡ 0xFF) (sym same) (subst (λ (i : ℕ). slice_index can.has.copy i ≡ 0xFF) place ones)
 
-    reads : now_data g pages at.head new patch.span ≡ Some can.has.copy
-    reads = (relink-reads g was image patch.id at.h patch.span spot.index spot.page to p patch.from patch.used at.head copied.0 old new can.has.old can.has.copy bytes f (λ r. r == to) start).0
+  -- the copy has free entries behind the last
+  next : FreesEntries g old new at.head
+  next t k high past there low inside =
+      next_free g old (take g.page copy.plain) (count_of g image (obj_id old % 0x8000)) copy.built.copied old_len (take g.page work) new patch.span to copy.entry copy.others sets at_span
+      (let below = at.below in omega (arith, below, count)) t k high (omega (arith, past, count)) there low inside
 
-    clean : (z : List ℕ) → size_of at.head % body g ≢ 0 → now_data g pages at.head new (size_of at.head / body g) ≡ Some z → (k : ℕ) → 5 + size_of at.head % body g ≤ k → k < g.page → slice_index z k ≡ 0xFF
-    clean z more there k low high =
-        let same : z ≡ can.has.copy = same_Some z can.has.copy (sym there ∙ ap (now_data g pages at.head new) ends.0 ∙ reads) in
-        let least = at.least ends in
-        let place : 5 + (k - 5) ≡ k = omega (arith, low) in
-        let ones : slice_index can.has.copy (5 + (k - 5)) ≡ 0xFF = can.has.patched.erased (k - 5) (omega (arith, low, least)) (omega (arith, low, high)) in
-        subst (λ (l : List ℕ). slice_index l k ≡ 0xFF) (sym same) (subst (λ (i : ℕ). slice_index can.has.copy i ≡ 0xFF) place ones)
+  -- where the file ends in the page, no other index page has an entry behind the last
+  other : EndsIn g (size_of at.head) patch.span → (r t k : ℕ) (x : List ℕ) → r ≢ spot.index → pages r ≡ Some x → names_index x ≡ true → span_of x ≡ further g t → head_slots g ≤ t → n ≤ t → slot_at g t ≤ k → k < g.page → slice_index x k ≡ 0xFF
+  other ends r t k x differ there kind span high past low inside =
+      let some : 0 < size_of at.head % body g = let more = ends.1 in ⊎_elim (λ (y : 0 < size_of at.head % body g). y) (λ (y : size_of at.head % body g ≤ 0). absurd (more (omega (arith, y)))) (cases_lt 0 (size_of at.head % body g)) in
+      let last : n ≡ patch.span + 1 = last_below g (size_of at.head) some ∙ ap (λ (m : ℕ). m + 1) ends.0 in
+      let apart : (r == to) ≡ false = ne_eqb r to (λ e.
+      (let same : x ≡ can.has.copy = same_Some x can.has.copy (sym there ∙ ap pages e ∙ can.has.copy_is) in
+      let bad : true ≡ false = sym kind ∙ ap names_index same ∙ can.has.copy_kind in absurd (cc))) in
+      let together = tail-together g was image patch.id at.h r t at.head f (λ q. q == to) can.has.prime apart high past (rw there (rw kind (eq-eqb (span_of x) (further g t) span))) in
+      let near : n - 1 ≡ patch.span = omega (arith, last) in
+      let spans : further g t ≡ index_span g patch.span = sym together.2 ∙ ap (index_span g) near in
+      absurd (differ (same_Some r spot.index (sym together.0 ∙ ap (index_page g pages) spans ∙ first)))
 
-    next : head_slots g ≤ n → index_span g n ≡ span_of old → slot_word g new n ≡ 0xFFFF
-    next high there =
-        subst (λ (m : ℕ). slot_word g new m ≡ 0xFFFF) count
-        (next_free g old (take g.page copy.plain) (count_of g image (obj_id old % 0x8000)) copy.built.copied old_len (take g.page work) new patch.span to copy.entry copy.others sets at_span
-        (λ e. omega (arith, e, count, last)) (omega (arith, high, count)) (ap (index_span g) count ∙ there))
+  module _ (b : List ℕ) (all : Replaced g p spot.index new image b) where
+    tail : EndsIn g (size_of at.head) patch.span → IsTailReady g b patch.id
+    tail ends = tail-readied g image b p spot.index patch.id at.h old new at.head copied.0 f f' recopies all (clean ends) next (other ends)
 
-    other : index_span g n ≢ span_of old → HasCleanEntry g pages at.head
-    other differ z high there =
-        option_and_then_some pages (index_page g pages (further g n)) z there (λ r at_r is.
-        let together = tail-together g was was patch.id at.h r at.head f at.prime high (sym (can.has.places (further g n)) ∙ at_r) in
-        let near : n - 1 ≡ patch.span = omega (arith, last) in
-        let spans : index_span g n ≡ span_of old = rw (le-ltb n (head_slots g) high) (sym together.1 ∙ ap (index_span g) near ∙ at_span) in
-        absurd (differ spans))
-
-    pub tail : IsTailReady g b patch.id
-    tail = tail-readied g image b p spot.index patch.id at.h old new at.head copied.0 f f' recopies all clean next other
+    -- a tail that was ready is so still
+    kept : IsTailReady g was patch.id → IsTailReady g b patch.id
+    kept was_ready =
+        let ready = can.has.tails patch.id was_ready at.h at.head can.has.prime.at can.has.prime.header in
+        tail-readied g image b p spot.index patch.id at.h old new at.head copied.0 f f' recopies all
+        (λ z more there k low high. ⊎_elim
+        (λ (here : size_of at.head / body g ≡ patch.span). clean (here, more) z more there k low high)
+        (λ (away : size_of at.head / body g ≡ patch.span → ⊥).
+        let some : 0 < size_of at.head % body g = ⊎_elim (λ (y : 0 < size_of at.head % body g). y) (λ (y : size_of at.head % body g ≤ 0). absurd (more (omega (arith, y)))) (cases_lt 0 (size_of at.head % body g)) in
+        let last = last_below g (size_of at.head) some in
+        ready.bytes z more (sym (reads.2 (size_of at.head / body g) (omega (arith, last)) away) ∙ there) k low high)
+        (cases_eq (size_of at.head / body g) patch.span))
+        next (λ r t k x left. ready.entries r t k x)
 
   done : (b : List ℕ) → Replaced g p spot.index new image b → HasOld g was patch spot bytes f b
   done b all =
@@ -262,6 +275,7 @@ module _ (g : Geometry) (was image : List ℕ) (patch : Patch) (spot : Spot) (to
         reserve = left.reserve;
         flags = flags_stay g all.middle b spot.index spot.page can.has.old all.kill.agree live5 not_w (flags_stay g image all.middle p spot.page can.has.old all.put.agree live not_p can.has.flags);
         ready = λ ends. tail b all ends;
+        kept = λ ready. kept b all ready;
       }
 
   all_of : span_of old ≡ 0 → count_of g image (obj_id old % 0x8000) ≡ data_pages g (size_of old)

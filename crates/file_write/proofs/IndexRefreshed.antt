@@ -1,7 +1,7 @@
 -- The further index page with the entry of the span behind the last is replaced by a plain copy, in which that entry is free.
 use Rattle.std.proofs.Common.{◌≡◌, ◌≢◌, ℕ, ◌+◌, ◌/◌, ◌%◌, ◌<◌, ◌≤◌, List, length, take, set, slice_index, true, false, ◌&&◌, Some, None, ap, refl, sym, ◌∙◌, arith, ⊎_elim, inl, subst}
 use Rattle.std.specs.Prelude.{is_some}
-use Rattle.std.proofs.lemmas.Bool.{cases_lt, le-ltb}
+use Rattle.std.proofs.lemmas.Bool.{cases_lt, eq-eqb}
 use Rattle.std.proofs.lemmas.List.{set-set, get_or-take}
 use Rattle.std.proofs.lemmas.Option.{same_Some}
 use Rattle.geometry.specs.declared.geometry.Geometry.{Geometry}
@@ -20,11 +20,11 @@ use Rattle.free_search.proofs.HadBy.{less_had}
 use Rattle.image_model.specs.Within.{sizes, page_length}
 use Rattle.image_model.specs.Headers.{obj_id, names_index, span_of, size_of}
 use Rattle.image_model.specs.Live.{Live, live_at, own}
-use Rattle.image_model.specs.Files.{is_index, index_page, further, index_span}
+use Rattle.image_model.specs.Files.{is_index, index_page, further, index_span, slot_at}
 use Rattle.image_model.specs.Kinds.{is_index_page}
 use Rattle.image_model.specs.Sound.{HasMagics}
 use Rattle.image_model.specs.Tables.{table_of}
-use Rattle.image_laws.specs.Reindex.{Reindexes, slot_word, now_data}
+use Rattle.image_laws.specs.Reindex.{Reindexes, now_data}
 use Rattle.image_laws.specs.Spares.{leftover}
 use Rattle.image_laws.specs.TidySteps.{IsTidyBut}
 use Rattle.image_laws.proofs.Finish.{own-parts}
@@ -34,9 +34,9 @@ use Rattle.image_laws.proofs.SpareKill.{tidy-has_magics}
 use Rattle.image_laws.proofs.TidySteps.{tidy-is_tidy}
 use Rattle.renew_laws.specs.Recopy.{RecopiesTo}
 use Rattle.renew_laws.specs.Replace.{ReplaceCut, Replaced}
-use Rattle.renew_laws.specs.Tails.{IsTailReady}
+use Rattle.renew_laws.specs.Tails.{IsTailReady, FreesEntries}
 use Rattle.renew_laws.proofs.IdleKill.{idles-end}
-use Rattle.renew_laws.proofs.PrimePlaces.{primed-places}
+use Rattle.renew_laws.proofs.PrimePlaces.{primed-places, tail-together}
 use Rattle.renew_laws.proofs.RecopyCuts.{recopy-cuts}
 use Rattle.renew_laws.proofs.RecopyLeaves.{recopy-spares}
 use Rattle.renew_laws.proofs.ReserveKept.{replace-reserve}
@@ -128,12 +128,6 @@ module _ (g : Geometry) (a : List ℕ) (id size o to : ℕ) (f : File) (can : Ca
   at_span : span_of old ≡ further g n
   at_span = ap span_of (sym x_old) ∙ x_is.3 ∙ ap (λ (m : ℕ). further g (data_pages g m)) file_at.told
 
-  high : head_slots g ≤ n
-  high = subst (λ (m : ℕ). head_slots g ≤ data_pages g m) file_at.told can.can.stale.0
-
-  next_span : index_span g n ≡ span_of old
-  next_span = rw (le-ltb n (head_slots g) high) (sym at_span)
-
   first : index_page g pages (span_of old) ≡ Some o
   first = ap (index_page g pages) (ap span_of (sym x_old) ∙ x_is.3) ∙ can.can.stale.1
 
@@ -206,13 +200,20 @@ module _ (g : Geometry) (a : List ℕ) (id size o to : ℕ) (f : File) (can : Ca
         let same = now_same g old (take g.page work) new count built.copied sets old_len pages id o file_at.h file_at.head f mine first alone built.index of_id file_at.prime.at file_at.prime.header file_at.prime.file count_is (size_of file_at.head / body g) below in
         ones_clean g a id size file_at.h file_at.head file_at.prime.at file_at.prime.header file_at.told at.ones z more (sym same ∙ there)
 
-    next : head_slots g ≤ n → index_span g n ≡ span_of old → slot_word g new n ≡ 0xFFFF
-    next low there =
-        let free : slot_word g (set (take g.page work) 4 0xF8) count ≡ 0xFFFF = free_behind g old (take g.page work) (set (take g.page work) 4 0xF8) count built.copied refl (omega (arith, low, count_is)) (ap (index_span g) count_is ∙ there) in
-        ap (λ (l : List ℕ). slot_word g l n) sets ∙ ap (slot_word g (set (take g.page work) 4 0xF8)) (sym count_is) ∙ free
+    next : FreesEntries g old new file_at.head
+    next t k far past there low inside =
+        let free = free_behind g old (take g.page work) (set (take g.page work) 4 0xF8) count built.copied refl t k far (omega (arith, past, count_is)) there low inside in
+        ap (λ (l : List ℕ). slice_index l k) sets ∙ free
+
+    -- no other index page has an entry behind the last
+    other : (r t k : ℕ) (x : List ℕ) → r ≢ o → pages r ≡ Some x → names_index x ≡ true → span_of x ≡ further g t → head_slots g ≤ t → n ≤ t → slot_at g t ≤ k → k < g.page → slice_index x k ≡ 0xFF
+    other r t k x differ there kind span far past low inside =
+        let together = tail-together g a a id file_at.h r t file_at.head f (λ q. false) file_at.prime refl far past (rw there (rw kind (eq-eqb (span_of x) (further g t) span))) in
+        let spans : further g t ≡ span_of old = sym together.4 ∙ sym at_span in
+        absurd (differ (same_Some r o (sym together.0 ∙ ap (index_page g pages) spans ∙ first)))
 
     tail : IsTailReady g b id
-    tail = tail-readied g a b to o id file_at.h old new file_at.head copied.0 f f start all clean next (λ other. absurd (other next_span))
+    tail = tail-readied g a b to o id file_at.h old new file_at.head copied.0 f f start all clean next other
 
     done : Readied g id a b
     done =

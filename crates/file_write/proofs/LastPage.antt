@@ -1,7 +1,8 @@
 -- Bytes that end in the last data page of a file are programmed there.
-use Rattle.std.proofs.Common.{◌≡◌, ℕ, ◌+◌, ◌-◌, ◌*◌, ◌/◌, ◌%◌, ◌<◌, ◌≤◌, List, length, Bool, true, false, ◌==◌, Option, Some, None, ap, refl, sym, ◌∙◌, arith, subst}
+use Rattle.std.proofs.Common.{◌≡◌, ℕ, ◌+◌, ◌-◌, ◌*◌, ◌/◌, ◌%◌, ◌<◌, ◌≤◌, List, length, Bool, true, false, ◌==◌, Option, Some, None, ap, refl, sym, ◌∙◌, arith, subst, ⊎_elim}
 use Rattle.std.specs.Prelude.{nat_le, ◌&&◌, if◌then◌else◌, is_some, slice_index, slice_range}
-use Rattle.std.proofs.lemmas.Option.{none-some, cond_some, option_and_then_some}
+use Rattle.std.proofs.lemmas.Bool.{cases_eq}
+use Rattle.std.proofs.lemmas.Option.{none-some, same_Some, cond_some, option_and_then_some}
 use Rattle.geometry.proofs.Bounds.{few_usable}
 use Rattle.geometry.specs.declared.geometry.Geometry.{Geometry}
 use Rattle.geometry.specs.Numbers.{body, head_slots, span_slots, page_count, per_block}
@@ -24,14 +25,19 @@ use Rattle.image_laws.proofs.Finish.{own-parts}
 use Rattle.image_laws.proofs.Frames.{live_parts}
 use Rattle.image_laws.proofs.Serving.{ceil-mono}
 use Rattle.image_laws.proofs.Finished.{finished-programmed}
-use Rattle.image_laws.proofs.Placing.{wider}
+use Rattle.image_laws.proofs.Placing.{page_byte, wider}
+use Rattle.trim_laws.specs.Wear.{SameWear, Worn}
 use Rattle.trim_laws.proofs.Trims.{inside_trims}
+use Rattle.trim_laws.proofs.Wears.{inside_keeps, upkeep_same, worn_same}
 use Rattle.trim_laws.proofs.Pages.{data_not_head}
 use Rattle.flash_view.specs.DataPages.{numbered, data_number, data_number_of}
 use Rattle.flash_view.specs.Steps.{Begins, Finishes, making}
+use Rattle.page_put.specs.Recount.{IsUsedPage}
+use Rattle.page_put.proofs.UsedPages.{live_used}
 use Rattle.free_search.specs.Had.{IsClear}
 use Rattle.free_search.proofs.HadBy.{less_had, in_place_had}
 use Rattle.renew_laws.specs.Primed.{Primed, ChangesInPlace}
+use Rattle.renew_laws.specs.Tails.{HasFreeEntries}
 use Rattle.renew_laws.proofs.Holding.{fill-holds}
 use Rattle.renew_laws.proofs.PrimeInPlace.{prime-fill}
 use Rattle.renew_laws.proofs.Serves.{data_parts}
@@ -197,6 +203,25 @@ module _ (g : Geometry) (a : List ℕ) (id h size q at end : ℕ) (bytes : List 
         in_place_had g a c q named.z (page_of g c q) 1 0 (clear g a id h size bytes f can) (primed_clear g a c id h can.head f (λ r. false) law.2) wide live now (kind ∙ sym named.kind)
         (less_had g a 1 1 1 0 (omega arith) (omega arith) (one_each g a id h size bytes f can))
 
+    -- the entries behind the last are free still
+    free : HasFreeEntries g (own (live_at g c) id) (data_pages g (size_of can.head + length bytes))
+    free r t k x is_x kind at_x high past low below =
+        let more = ceil-mono (size_of can.head) (size_of can.head + length bytes) (body g) (omega (arith, (sizes g).page)) (omega arith) in
+        ⊎_elim
+        (λ (here : r ≡ q).
+        let same : page_of g c q ≡ x = same_Some (page_of g c q) x (sym law.3.now ∙ ap (own (live_at g c) id) (sym here) ∙ is_x) in
+        let no_index = data_kind g (own (live_at g c) id) can.head (size_of can.head / body g) (page_of g c q) law.4 in
+        let bad : true ≡ false = sym kind ∙ ap names_index (sym same) ∙ no_index in absurd (cc))
+        (λ (other : r ≡ q → ⊥).
+        (can.can.ready h can.head can.prime.at can.prime.header).entries r t k x (sym (law.3.others r other) ∙ is_x) kind at_x high (omega (arith, past, more)) low below)
+        (cases_eq r q)
+
+    erased : (k : ℕ) → 5 + size_of can.head % body g + length bytes ≤ k → k < g.page → slice_index (page_of g c q) k ≡ 0xFF
+    erased k low high =
+        let a_page : page_of g a q ≡ named.z = (live_parts g a q named.z live).bytes in
+        page_byte g c q k high ∙ torn.outside.after (q * g.page + k) (omega (arith, low, start)) ∙ sym (page_byte g a q k high) ∙ ap (λ (l : List ℕ). slice_index l k) a_page
+        ∙ (can.can.ready h can.head can.prime.at can.prime.header).bytes named.z (λ e. omega (arith, e, used)) whole k (omega (arith, low)) high
+
     ready : Programmed (q * g.page + at) bytes a c → ((k : ℕ) → k < length bytes → slice_index bytes k < 256) → IsReady g a id h size bytes f can c (Grow end)
     ready done small = record {
       beside = λ r. false;
@@ -216,13 +241,26 @@ module _ (g : Geometry) (a : List ℕ) (id h size q at end : ℕ) (bytes : List 
             word_kept g can.head y (Grow end) edited (size_of can.head / body g) (omega (arith, below)) (omega (arith, below, more)) low)
             ∙ law.4;
       };
+      erased = erased;
+      free = free;
       serve = λ y edited r none. absurd (let bad : false ≡ true = none in cc);
       had = had;
       reserve = λ two. let more = law.1 in omega (arith, two, more);
     }
 
-  pub fill_begins : Begins g a (making (λ k. HalfProgrammed (q * k.page + at) bytes) (λ k was. programmed was (q * k.page + at) bytes)) (filling_at id h size q bytes f)
-  fill_begins = record { needs = λ c torn. inside_trims g a c q (q * g.page + at) named.z bytes is live (data_not_head named.z named.kind) (omega (arith, start)) (omega (arith, inside)) torn; cut = λ c torn. cut c torn }
+  -- all erase counts stay
+  filled_wear : (c : List ℕ) → HalfProgrammed (q * g.page + at) bytes a c → SameWear g a c
+  filled_wear c torn = inside_keeps g a c q (q * g.page + at) (length bytes) (live_parts g a q named.z live).entry_page (omega arith) (omega (arith, inside)) torn.outside
+
+  pub fill_begins : Begins g a (making (λ k l. IsUsedPage k l q) (λ k. HalfProgrammed (q * k.page + at) bytes) (λ k was. programmed was (q * k.page + at) bytes)) (filling_at id h size q bytes f)
+  fill_begins = record {
+    needs = (
+      live_used g a q named.z live,
+      (λ c torn. upkeep_same g a c (inside_trims g a c q (q * g.page + at) named.z bytes is live (data_not_head named.z named.kind) (omega (arith, start)) (omega (arith, inside)) torn) (filled_wear c torn)),
+      λ c now. subst (λ (l : List ℕ). Worn g a l) (sym now) (worn_same g a _ (filled_wear _ (half_programmed a (q * g.page + at) bytes))),
+    );
+    cut = λ c torn. cut c torn;
+  }
 
   pub fill_ends : (c : List ℕ) → ((k : ℕ) → k < length bytes → slice_index bytes k < 256) → c ≡ programmed a (q * g.page + at) bytes → Finishes g a c (renewing_from id h (Grow end) (written (length f.bytes) bytes f)) (filling_at id h size q bytes f)
   fill_ends c small done =

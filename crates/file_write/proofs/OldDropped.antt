@@ -52,6 +52,7 @@ module _ (g : Geometry) (was image : List ℕ) (patch : Patch) (spot : Spot) (by
           can = has.can;
           step = record { tidy = ends.0; table = ends.1; reserve = λ two. let kept = has.reserve two in let more = left.1 in omega (arith, kept, more) };
           ready = λ ends. tail-dropped g image d spot.page has.old has.live has.kind kill patch.id (has.ready ends);
+          kept = λ ready. tail-dropped g image d spot.page has.old has.live has.kind kill patch.id (has.kept ready);
         };
   }
 

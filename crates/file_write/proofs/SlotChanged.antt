@@ -1,6 +1,6 @@
 -- The copy of an index page in which the entry of one span is another.
 use Rattle.std.proofs.Common.{◌≡◌, ◌≢◌, ℕ, ◌+◌, ◌%◌, ◌<◌, ◌≤◌, List, length, set, slice_index, slice_range, true, ap, refl, sym, ◌∙◌, arith, ⊎_elim, inl, inr, length-set, get_or-set_same, get_or-set_other}
-use Rattle.std.proofs.lemmas.Bool.{cases_eq}
+use Rattle.std.proofs.lemmas.Bool.{cases_eq, cases_lt, lt-ltb, le-ltb}
 use Rattle.geometry.specs.declared.geometry.Geometry.{Geometry}
 use Rattle.geometry.specs.Numbers.{head_slots}
 use Rattle.table_model.specs.Room.{data_pages}
@@ -8,13 +8,13 @@ use Rattle.nor_core.specs.Flash.{SameOutside, word_at}
 use Rattle.page_layout.proofs.Stays.{word_stays, range_stays, name_stays}
 use Rattle.image_model.specs.Within.{sizes}
 use Rattle.image_model.specs.Headers.{obj_id, names_index, span_of, size_of, name_of}
-use Rattle.image_model.specs.Files.{slot_at, index_span}
+use Rattle.image_model.specs.Files.{further, slot_at, index_span}
 use Rattle.image_laws.specs.Reindex.{slot_word}
 use Rattle.renew_laws.specs.Relink.{IsRelinked}
 use Rattle.page_renew.specs.Copies.{kept_of, IsCopy}
 use Rattle.page_renew.proofs.FreeEntries.{free_behind}
 use Rattle.page_renew.proofs.Renewed.{same_id, same_span, slot_same, same_size, same_kind, same_meta, same_name}
-use Rattle.page_renew.proofs.SlotNames.{slot_word_at, slot_behind, slot_far, slots_apart}
+use Rattle.page_renew.proofs.SlotNames.{slot_word_at, slot_behind, slot_far, slots_apart, slots_rise}
 
 -- a byte of a page that both have makes no difference
 set_outside : (at n v : ℕ) (y z : List ℕ) → 4 < length y → 4 < length z → SameOutside at n y z → SameOutside at n (set y 4 v) (set z 4 v)
@@ -67,9 +67,17 @@ module _ (g : Geometry) (old y : List ℕ) (count : ℕ) (copy : IsCopy g (span_
     span_same : span_of new ≡ span_of old
     span_same = let from = slot_behind g s in word_stays (slot_at g s) 2 2 plain new others (inr (omega (arith, from))) ∙ same_span g old y plain count copy refl len
 
-    -- the entry behind the last one is free
-    pub next_free : (at : index_span g s ≡ span_of old) → count ≢ s → head_slots g ≤ count → index_span g count ≡ span_of old → slot_word g new count ≡ 0xFFFF
-    next_free at differ high there = other_slot count differ (there ∙ sym at) ∙ free_behind g old y plain count copy refl high there
+    -- the entries behind the last one are free
+    pub next_free : (at : index_span g s ≡ span_of old) → s < count → (t k : ℕ) → head_slots g ≤ t → count ≤ t → index_span g t ≡ span_of old → slot_at g t ≤ k → k < g.page → slice_index new k ≡ 0xFF
+    next_free at below t k high past there low inside =
+        let far_t : index_span g t ≡ further g t = rw (le-ltb t (head_slots g) high) refl in
+        ⊎_elim
+        (λ (near : s < head_slots g). let zero : index_span g s ≡ 0 = rw (lt-ltb s (head_slots g) near) refl in absurd (omega (arith, zero, at, there, far_t)))
+        (λ (far : head_slots g ≤ s).
+        let far_s : index_span g s ≡ further g s = rw (le-ltb s (head_slots g) far) refl in
+        let step = slots_rise g s t far (omega (arith, below, past)) (sym far_s ∙ at ∙ sym there ∙ far_t) in
+        others.after k (omega (arith, step, low, below, past)) ∙ free_behind g old y plain count copy refl t k high past there low inside)
+        (cases_lt s (head_slots g))
 
     module _ (zero : span_of old ≡ 0) (at : index_span g s ≡ span_of old) where
       far : 45 + g.meta ≤ slot_at g s

@@ -1,31 +1,32 @@
 -- What the looks at the tail of a file tell.
-use Rattle.std.proofs.Common.{◌≡◌, ℕ, ◌+◌, ◌-◌, ◌/◌, ◌%◌, ◌<◌, ◌≤◌, List, length, drop, get_or, slice_index, Bool, true, false, ◌==◌, Some, None, ap, sym, ◌∙◌, arith, subst, ⊎_elim, length-drop}
+use Rattle.std.proofs.Common.{◌≡◌, ℕ, ◌+◌, ◌-◌, ◌/◌, ◌%◌, ◌<◌, ◌≤◌, List, length, drop, get_or, slice_index, Bool, true, false, ◌==◌, Some, None, ap, refl, sym, ◌∙◌, arith, subst, ⊎_elim, length-drop}
 use Rattle.std.specs.Prelude.{option_and_then, Result, Ok, Err, IfOk}
 use Rattle.std.specs.Bool.{OnTrue, OnFalse}
 use Rattle.nor_core.specs.declared.device.Failed.{Failed}
-use Rattle.std.proofs.lemmas.Bool.{cases_eq, ne_eqb, le-ltb}
+use Rattle.std.proofs.lemmas.Bool.{cases_eq, eq-eqb, ne_eqb, le-ltb}
 use Rattle.std.proofs.lemmas.List.{get_or-drop}
 use Rattle.std.proofs.lemmas.List.Folds.{list_all_at}
 use Rattle.std.proofs.lemmas.Option.{same_Some, option_and_then_some}
 use Rattle.geometry.specs.declared.geometry.Geometry.{Geometry}
 use Rattle.geometry.specs.Numbers.{body, head_slots}
+use Rattle.table_model.specs.Table.{File}
 use Rattle.table_model.specs.Room.{data_pages}
 use Rattle.image_model.specs.Within.{page_length}
-use Rattle.image_model.specs.Headers.{size_of}
-use Rattle.nor_core.specs.Flash.{word_at}
+use Rattle.image_model.specs.Headers.{span_of, size_of}
 use Rattle.image_model.specs.Live.{live_at, own}
 use Rattle.image_model.specs.Files.{index_page, further, index_span, slot_at}
 use Rattle.image_model.specs.Places.{page_of, is_entry_page, IsImage}
 use Rattle.image_model.specs.Tidy.{is_erased}
-use Rattle.image_laws.specs.Reindex.{slot_word}
 use Rattle.image_laws.proofs.Finish.{own-parts}
 use Rattle.image_laws.proofs.Frames.{live_parts}
 use Rattle.renew_laws.specs.Tails.{HasCleanBytes, IsTailReady}
+use Rattle.renew_laws.proofs.PrimePlaces.{tail-together}
 use Rattle.renew_laws.proofs.Spans.{page_named}
+use Rattle.renew_laws.proofs.TailSteps.{ready_from}
 use Rattle.flash_view.specs.DataPages.{data_number, data_number_of}
-use Rattle.page_renew.specs.declared.finding.Found.{Found}
-use Rattle.page_renew.specs.Renewals.{IsHome}
+use Rattle.page_renew.proofs.SlotNames.{slots_rise}
 use Rattle.file_write.specs.Readyings.{HasOnes, HasOther, IsStale}
+use Rattle.file_write.specs.Relinkings.{IsFileAt}
 use Rattle.file_write.proofs.LastPage.{named_by, number_there}
 
 -- a byte of an erased list
@@ -43,6 +44,14 @@ number_live g image id t q e =
     option_and_then_some (λ head. data_number g (own (live_at g image) id) head t) (option_and_then (own (live_at g image) id) (index_page g (own (live_at g image) id) 0)) q e
     (λ head at number. let n = named_by g (own (live_at g image) id) head t q number in (n.z, n.is))
 
+-- a byte of a page that is erased from a place on
+rest_at : (g : Geometry) (image : List ℕ) (p from k : ℕ) → length (page_of g image p) ≡ g.page → is_erased (drop from (page_of g image p)) ≡ true → from ≤ k → k < g.page → slice_index (page_of g image p) k ≡ 0xFF
+rest_at g image p from k len ones low high =
+    let rest = length-drop from (page_of g image p) in
+    let place : from + (k - from) ≡ k = omega (arith, low) in
+    let byte : slice_index (page_of g image p) (from + (k - from)) ≡ 0xFF = sym (get_or-drop from (page_of g image p) (k - from) 0) ∙ ones_at (drop from (page_of g image p)) (k - from) ones (omega (arith, rest, len, low, high)) in
+    subst (λ (n : ℕ). slice_index (page_of g image p) n ≡ 0xFF) place byte
+
 -- ---- the bytes past the size
 
 -- where they were read
@@ -52,10 +61,7 @@ rest_read g image id size p from is there from_is ones q more number k low high 
     let x = number_live g image id (size / body g) p (sym there) in
     let live = (own-parts (live_at g image) id p x.0 x.1).0 in
     let len : length (page_of g image p) ≡ g.page = page_length g image p is (live_parts g image p x.0 live).entry_page in
-    let rest = length-drop from (page_of g image p) in
-    let place : from + (k - from) ≡ k = omega (arith, low, from_is) in
-    let byte : slice_index (page_of g image p) (from + (k - from)) ≡ 0xFF = sym (get_or-drop from (page_of g image p) (k - from) 0) ∙ ones_at (drop from (page_of g image p)) (k - from) ones (omega (arith, rest, len, low, high, from_is)) in
-    subst (λ (n : ℕ). slice_index (page_of g image n) k ≡ 0xFF) same (subst (λ (n : ℕ). slice_index (page_of g image p) n ≡ 0xFF) place byte)
+    subst (λ (n : ℕ). slice_index (page_of g image n) k ≡ 0xFF) same (rest_at g image p from k len ones (omega (arith, low, from_is)) high)
 
 -- as a call tells it
 pub ones_told : (g : Geometry) (image : List ℕ) (id size p span from : ℕ) (r : Result Bool Failed) → IsImage g image → Some p ≡ data_number_of g image id span → span ≡ size / body g → from ≡ 5 + size % body g →
@@ -102,25 +108,28 @@ module _ (g : Geometry) (image : List ℕ) (id size span w : ℕ) (at : span ≡
       option_and_then (own (live_at g image) id) (index_page g (own (live_at g image) id) (further g (data_pages g size))) ≡ Some page → live_at g image w ≡ Some page
   page_at page high there = (own-parts (live_at g image) id w page (ap (option_and_then (own (live_at g image) id)) (sym (first high)) ∙ there)).0
 
-  -- it is free
-  pub free_behind : (word : ℕ) → word ≡ word_at (page_of g image w) (slot_at g (data_pages g size)) → word ≡ 0xFFFF → IsStale g image id size None
-  free_behind word is ones page high there =
-      let bytes : page_of g image w ≡ page = (live_parts g image w page (page_at page high there)).bytes in
-      ap (λ (l : List ℕ). word_at l (slot_at g (data_pages g size))) (sym bytes) ∙ sym is ∙ ones
+  -- its bytes from there on are 0xFF
+  pub free_behind : (from : ℕ) → IsImage g image → from ≡ slot_at g (data_pages g size) → is_erased (drop from (page_of g image w)) ≡ true → IsStale g image id size None
+  free_behind from is from_is ones page k high there low below =
+      let parts = live_parts g image w page (page_at page high there) in
+      let len : length (page_of g image w) ≡ g.page = page_length g image w is parts.entry_page in
+      ap (λ (l : List ℕ). slice_index l k) (sym parts.bytes) ∙ rest_at g image w from k len ones (omega (arith, low, from_is)) below
 
   -- an index page is an entry page
   pub not_inside : is_entry_page g w ≡ false → IsStale g image id size None
-  not_inside out page high there = let yes = (live_parts g image w page (page_at page high there)).entry_page in let bad : true ≡ false = sym yes ∙ out in absurd (cc)
+  not_inside out page k high there low below = let yes = (live_parts g image w page (page_at page high there)).entry_page in let bad : true ≡ false = sym yes ∙ out in absurd (cc)
 
 -- ---- the tail
 
-pub tail_ready : (g : Geometry) (image : List ℕ) (id : ℕ) (found : Found) → IsHome g image id (Some found) → HasOnes g image id found.size → IsStale g image id found.size None → IsTailReady g image id
-tail_ready g image id found home ones free h head at header =
-    let place : h ≡ found.header = same_Some h found.header (sym at ∙ home.0) in
-    let live : live_at g image h ≡ Some head = (own-parts (live_at g image) id h head header).0 in
-    let bytes : page_of g image found.header ≡ head = ap (page_of g image) (sym place) ∙ (live_parts g image h head live).bytes in
-    let told : found.size ≡ size_of head = home.1 ∙ ap size_of bytes in
-    record {
-      bytes = ones_clean g image id found.size h head at header told ones;
-      entry = subst (λ (n : ℕ). (page : List ℕ) → head_slots g ≤ data_pages g n → option_and_then (own (live_at g image) id) (index_page g (own (live_at g image) id) (further g (data_pages g n))) ≡ Some page → slot_word g page (data_pages g n) ≡ 0xFFFF) told free;
-    }
+pub tail_ready : (g : Geometry) (image : List ℕ) (id size : ℕ) (f : File) → IsFileAt g image id size f → HasOnes g image id size → IsStale g image id size None → IsTailReady g image id
+tail_ready g image id size f at ones free =
+    let pages = own (live_at g image) id in
+    let n = data_pages g (size_of at.head) in
+    ready_from g image id at.h at.head at.prime.at at.prime.header (record {
+      bytes = ones_clean g image id size at.h at.head at.prime.at at.prime.header at.told ones;
+      entries = λ r t k page is kind span high past low below.
+          let together = tail-together g image image id at.h r t at.head f (λ q. false) at.prime refl high past (rw is (rw kind (eq-eqb (span_of page) (further g t) span))) in
+          let place : option_and_then pages (index_page g pages (further g n)) ≡ Some page = ap (λ (s : ℕ). option_and_then pages (index_page g pages s)) together.4 ∙ ap (option_and_then pages) together.0 ∙ is in
+          let step = slots_rise g n t together.3 past together.4 in
+          subst (λ (m : ℕ). IsStale g image id m None) at.told free page k together.3 place (omega (arith, step, low)) below;
+    })

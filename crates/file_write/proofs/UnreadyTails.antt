@@ -9,16 +9,15 @@ use Rattle.geometry.specs.Numbers.{body, head_slots}
 use Rattle.table_model.specs.Table.{File}
 use Rattle.table_model.specs.Room.{data_pages}
 use Rattle.image_model.specs.Headers.{size_of}
+use Rattle.image_model.specs.Within.{page_length}
 use Rattle.image_model.specs.Live.{live_at, own}
-use Rattle.image_model.specs.Files.{index_page, further}
+use Rattle.image_model.specs.Files.{index_page, further, slot_at}
 use Rattle.image_model.specs.Places.{page_of}
 use Rattle.image_model.specs.Tidy.{is_erased}
-use Rattle.image_laws.specs.Reindex.{slot_word}
 use Rattle.image_laws.proofs.Finish.{own-parts}
 use Rattle.image_laws.proofs.Frames.{live_parts}
 use Rattle.image_laws.proofs.Judge.{index_passes}
 use Rattle.page_renew.specs.declared.finding.Found.{Found}
-use Rattle.page_renew.specs.Renewals.{IsHome}
 use Rattle.page_renew.proofs.Homes.{index_some}
 use Rattle.renew_laws.specs.Tails.{HasCleanTail, IsTailReady}
 use Rattle.flash_view.specs.declared.view.View.{View}
@@ -56,14 +55,23 @@ module _ (g : Geometry) (image : List ℕ) (id size : ℕ) (f : File) (has : Has
       let bad : true ≡ false = sym ones ∙ there last.q last.number last.inside few in
       absurd (cc)
 
-  -- nor is the entry behind the last
+  -- nor is one from the entry behind the last on
   pub none_taken : (w : ℕ) → IsStale g image id size (Some w) → IsTaken g image size w → ⊥
   none_taken w stale taken =
       let pages = own (live_at g image) id in
-      let x = index_some (pages w) (further g (data_pages g size)) (index_passes g pages (further g (data_pages g size)) w stale.1) in
-      let bytes : page_of g image w ≡ x.0 = (live_parts g image w x.0 (own-parts (live_at g image) id w x.0 x.1).0).bytes in
-      let free : slot_word g x.0 (data_pages g size) ≡ 0xFFFF = subst (λ (n : ℕ). (page : List ℕ) → head_slots g ≤ data_pages g n → option_and_then pages (index_page g pages (further g (data_pages g n))) ≡ Some page → slot_word g page (data_pages g n) ≡ 0xFFFF) (sym has.home.told) tail.entry x.0 stale.0 (rw stale.1 x.1) in
-      taken (ap (λ (l : List ℕ). slot_word g l (data_pages g size)) bytes ∙ free)
+      let n = data_pages g (size_of has.home.head) in
+      let at = subst (λ (m : ℕ). IsStale g image id m (Some w)) has.home.told stale in
+      let other = subst (λ (m : ℕ). IsTaken g image m w) has.home.told taken in
+      let x = index_some (pages w) (further g n) (index_passes g pages (further g n) w at.1) in
+      let parts = live_parts g image w x.0 (own-parts (live_at g image) id w x.0 x.1).0 in
+      let len : length (page_of g image w) ≡ g.page = page_length g image w has.home.prime.image parts.entry_page in
+      let from = slot_at g n in
+      let rest = length-drop from (page_of g image w) in
+      let ones : is_erased (drop from (page_of g image w)) ≡ true = erased_by (drop from (page_of g image w))
+      (λ k low. get_or-drop from (page_of g image w) k 0 ∙ ap (λ (l : List ℕ). slice_index l (from + k)) parts.bytes
+      ∙ tail.entries w n (from + k) x.0 x.1 x.2 x.3 at.0 (omega arith) (omega arith) (omega (arith, low, rest, len))) in
+      let bad : true ≡ false = sym ones ∙ other in
+      absurd (cc)
 
 -- ---- what only looks where that holds, after a look
 
@@ -79,9 +87,9 @@ never false is wrong = (λ e. absurd (cc), λ p. absurd (wrong p))
 never true is wrong = absurd (cc)
 
 -- as the calls tell it
-pub tail_told : (g : Geometry) (image : List ℕ) (id : ℕ) (f : File) (found : Found) (clean : Bool) (stale : Option ℕ) (b : Bool) → IsHome g image id (Some found) → IsFileAt g image id found.size f → clean ≡ true → OnTrue clean (HasOnes g image id found.size) →
+pub tail_told : (g : Geometry) (image : List ℕ) (id : ℕ) (f : File) (found : Found) (clean : Bool) (stale : Option ℕ) (b : Bool) → IsFileAt g image id found.size f → clean ≡ true → OnTrue clean (HasOnes g image id found.size) →
     IsStale g image id found.size stale → IfSome stale (IsTaken g image found.size) → is_some stale ≡ not b → (b ≡ true) ↔ IsTailReady g image id
-tail_told g image id f found clean None true home at is_clean ones free taken is = (λ e. tail_ready g image id found home (rw is_clean at ones) free, λ ready. refl)
-tail_told g image id f found clean None false home at is_clean ones free taken is = absurd (cc)
-tail_told g image id f found clean (Some w) true home at is_clean ones free taken is = absurd (cc)
-tail_told g image id f found clean (Some w) false home at is_clean ones free taken is = never false refl (λ ready. none_taken g image id found.size f (record { home = at; ready = ready }) w free taken)
+tail_told g image id f found clean None true at is_clean ones free taken is = (λ e. tail_ready g image id found.size f at (rw is_clean at ones) free, λ ready. refl)
+tail_told g image id f found clean None false at is_clean ones free taken is = absurd (cc)
+tail_told g image id f found clean (Some w) true at is_clean ones free taken is = absurd (cc)
+tail_told g image id f found clean (Some w) false at is_clean ones free taken is = never false refl (λ ready. none_taken g image id found.size f (record { home = at; ready = ready }) w free taken)

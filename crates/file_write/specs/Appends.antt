@@ -1,5 +1,6 @@
 -- What an append asks of an image, and what it leaves.
-use Rattle.std.specs.Prelude.{◌≡◌, ℕ, ◌+◌, ◌-◌, ◌*◌, ◌/◌, ◌%◌, ◌<◌, ◌≤◌, List, length, true, false, ◌==◌, ◌&&◌, nat_le, Option, Some, None, if◌then◌else◌, slice_index}
+use Rattle.std.specs.Prelude.{◌≡◌, ℕ, ◌+◌, ◌-◌, ◌*◌, ◌/◌, ◌%◌, ◌<◌, ◌≤◌, List, length, true, false, ◌==◌, ◌&&◌, nat_le, Option, Some, None, if◌then◌else◌}
+use Rattle.std.specs.Prelude.{slice_index}
 use Rattle.std.specs.Int.{to_le_bytes, w16}
 use Rattle.geometry.specs.declared.geometry.Geometry.{Geometry}
 use Rattle.geometry.specs.Numbers.{body, head_slots, span_slots, usable, page_count}
@@ -71,20 +72,25 @@ abbrev pub IsLast : Geometry → List ℕ → (id size : ℕ) → Option ℕ →
 IsLast g image id size None = (q : ℕ) → data_number_of g image id (size / body g) ≡ Some q → q < page_count g → size / body g ≤ 0xFFFF → ⊥
 IsLast g image id size (Some q) = data_number_of g image id (size / body g) ≡ Some q
 
+-- The bytes stand at the file's end, and its tail is ready for more.
+pub record Appended (g : Geometry) (id : ℕ) (bytes : List ℕ) (f : File) (was now : List ℕ) : Type 0 where
+  pub step : StepDone g (put_file (written (length f.bytes) bytes f) (table_of g was)) was now
+  pub ready : IsTailReady g now id
+
 -- ---- the steps of an append: to the file of a header page, and the whole append
 
 abbrev pub appending_at : (id h size : ℕ) → List ℕ → File → Step (Unit {0})
 appending_at id h size bytes f = record {
   needs = λ g was. CanAppendAt g was id h size bytes f;
   cut = λ g was image. StepCut g (put_file (written (length f.bytes) bytes f) (table_of g was)) was image;
-  done = λ g was now ok. StepDone g (put_file (written (length f.bytes) bytes f) (table_of g was)) was now;
+  done = λ g was now ok. Appended g id bytes f was now;
 }
 
 abbrev pub appending : (id : ℕ) → List ℕ → File → Step (Unit {0})
 appending id bytes f = record {
   needs = λ g was. CanAppend g was id bytes f;
   cut = λ g was image. StepCut g (put_file (written (length f.bytes) bytes f) (table_of g was)) was image;
-  done = λ g was now ok. StepDone g (put_file (written (length f.bytes) bytes f) (table_of g was)) was now;
+  done = λ g was now ok. Appended g id bytes f was now;
 }
 
 -- bytes that end in the last data page, page q
@@ -92,7 +98,7 @@ abbrev pub filling_at : (id h size q : ℕ) → List ℕ → File → Step (Unit
 filling_at id h size q bytes f = record {
   needs = λ g was. CanFill g was id h size q bytes f;
   cut = λ g was image. StepCut g (put_file (written (length f.bytes) bytes f) (table_of g was)) was image;
-  done = λ g was now ok. StepDone g (put_file (written (length f.bytes) bytes f) (table_of g was)) was now;
+  done = λ g was now ok. Appended g id bytes f was now;
 }
 
 -- bytes that begin a data page whose entry further index page w has
@@ -100,7 +106,7 @@ abbrev pub naming_at : (id h size w : ℕ) → List ℕ → File → Step (Unit 
 naming_at id h size w bytes f = record {
   needs = λ g was. CanName g was id h size w bytes f;
   cut = λ g was image. StepCut g (put_file (written (length f.bytes) bytes f) (table_of g was)) was image;
-  done = λ g was now ok. StepDone g (put_file (written (length f.bytes) bytes f) (table_of g was)) was now;
+  done = λ g was now ok. Appended g id bytes f was now;
 }
 
 -- Their data page p is put and named there.
@@ -108,7 +114,8 @@ abbrev pub naming_data : (id h size w span p : ℕ) → List ℕ → File → St
 naming_data id h size w span p bytes f = record {
   needs = λ g was. CanName g was id h size w bytes f;
   cut = λ g was image. StepCut g (put_file (written (length f.bytes) bytes f) (table_of g was)) was image;
-  done = λ g was now ok. (mid : List ℕ) × AddedPage g Data (is_data id span bytes g) was mid p × (now ≡ programmed mid (w * g.page + slot_at g span) (to_le_bytes w16 p));
+  done = λ g was now ok. (mid : List ℕ) × AddedPage g Data (is_data id span bytes g) was mid p
+      × (now ≡ programmed mid (w * g.page + slot_at g span) (to_le_bytes w16 p));
 }
 
 -- Their data page p is put, and a further index page of span s that names it.

@@ -1,7 +1,8 @@
 -- Pages that are put beside those of a file.
-use Rattle.std.specs.Prelude.{◌≡◌, ℕ, ◌+◌, ◌%◌, ◌⊎◌, List, length, drop, Bool, true, false, None, slice_range}
+use Rattle.std.specs.Prelude.{◌≡◌, ℕ, ◌+◌, ◌%◌, ◌<◌, ◌≤◌, ◌⊎◌, List, length, drop, Bool, true, false, None, slice_index, slice_range}
 use Rattle.geometry.specs.declared.geometry.Geometry.{Geometry}
 use Rattle.table_model.specs.declared.error.Tag.{Tag}
+use Rattle.image_model.specs.Files.{slot_at}
 use Rattle.image_model.specs.Headers.{obj_id, names_index, span_of}
 use Rattle.image_model.specs.Places.{IsImage}
 use Rattle.image_model.specs.Collect.{are_had}
@@ -27,19 +28,21 @@ pub record IsPageOf (g : Geometry) (kind : Kind) (tag : Tag) (bytes page : List 
   pub len : length page ≡ g.page
   pub rest : drop 5 page ≡ bytes
 
--- It is the data page of these bytes.
+-- It is the data page of these bytes, with 0xFF behind them.
 pub record IsDataPage (g : Geometry) (id span : ℕ) (bytes page : List ℕ) : Type 0 where
   pub kind : names_index page ≡ false
   pub of : obj_id page % 0x8000 ≡ id
   pub at : span_of page ≡ span
   pub holds : slice_range page 5 (5 + length bytes) ≡ bytes
+  pub erased : (k : ℕ) → 5 + length bytes ≤ k → k < g.page → slice_index page k ≡ 0xFF
 
--- It is an index page that names page p as that of a data span.
+-- It is an index page that names page p as that of a data span, with 0xFF behind that entry.
 pub record IsIndexPage (g : Geometry) (id span t p : ℕ) (page : List ℕ) : Type 0 where
   pub kind : names_index page ≡ true
   pub of : obj_id page % 0x8000 ≡ id
   pub at : span_of page ≡ span
   pub slot : slot_word g page t ≡ p
+  pub erased : (k : ℕ) → slot_at g t + 2 ≤ k → k < g.page → slice_index page k ≡ 0xFF
 
 -- A page of which this holds is put at a free page,
 abbrev pub putting_one : ℕ → (Geometry → List ℕ → Type 0) → Step (Unit {0})

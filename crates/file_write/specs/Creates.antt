@@ -43,7 +43,9 @@ pub record CanPut (g : Geometry) (image : List ℕ) (p id : ℕ) (name : List �
 -- ---- the steps of a create: the header page at page p, and the whole create
 
 abbrev pub creating_at : ℕ → ℕ → List ℕ → Step (Unit {0})
-creating_at p id name = record { needs = λ g was. CanPut g was p id name; cut = λ g was image. CreateCut g was id name image; done = λ g was now ok. Created g was id name now }
+creating_at p id name =
+    record { needs = λ g was. CanPut g was p id name; cut = λ g was image. CreateCut g was id name image; done = λ g was now ok. Created g was id name now }
 
 abbrev pub creating : ℕ → List ℕ → Step (Unit {0})
-creating id name = record { needs = λ g was. CanCreate g was id name; cut = λ g was image. CreateCut g was id name image; done = λ g was now ok. Created g was id name now }
+creating id name =
+    record { needs = λ g was. CanCreate g was id name; cut = λ g was image. CreateCut g was id name image; done = λ g was now ok. Created g was id name now }

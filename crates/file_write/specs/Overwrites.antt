@@ -1,5 +1,5 @@
 -- What it asks of an image to overwrite bytes of a file, and what that leaves.
-use Rattle.std.specs.Prelude.{◌≡◌, ℕ, ◌+◌, ◌%◌, ◌<◌, ◌≤◌, List, length, true, Some}
+use Rattle.std.specs.Prelude.{◌≡◌, ◌≢◌, ℕ, ◌+◌, ◌/◌, ◌%◌, ◌<◌, ◌≤◌, List, length, true, Some}
 use Rattle.geometry.specs.declared.geometry.Geometry.{Geometry}
 use Rattle.geometry.specs.Numbers.{body}
 use Rattle.table_model.specs.Table.{File, file_of, put_file}
@@ -7,6 +7,7 @@ use Rattle.table_model.specs.Files.{written}
 use Rattle.image_model.specs.Collect.{are_had}
 use Rattle.image_model.specs.Tables.{table_of}
 use Rattle.image_model.specs.Tidy.{IsTidy}
+use Rattle.renew_laws.specs.Tails.{IsTailReady}
 use Rattle.flash_view.specs.Steps.{Step}
 use Rattle.page_renew.specs.PageSteps.{StepCut, StepDone}
 
@@ -20,9 +21,15 @@ pub record CanOverwrite (g : Geometry) (image : List ℕ) (id at : ℕ) (bytes :
   pub inside : at + length bytes ≤ length f.bytes
   pub had : are_had g image 1 1 ≡ true
 
+-- The bytes are written. The file's tail is ready where it was, and where the file ends in the data page that they are written to.
+pub record Overwritten (g : Geometry) (id at : ℕ) (bytes : List ℕ) (f : File) (was now : List ℕ) : Type 0 where
+  pub step : StepDone g (put_file (written at bytes f) (table_of g was)) was now
+  pub ready : at / body g ≡ length f.bytes / body g → length f.bytes % body g ≢ 0 → IsTailReady g now id
+  pub kept : IsTailReady g was id → IsTailReady g now id
+
 abbrev pub overwriting : (id at : ℕ) → List ℕ → File → Step (Unit {0})
 overwriting id at bytes f = record {
   needs = λ g was. CanOverwrite g was id at bytes f;
   cut = λ g was image. StepCut g (put_file (written at bytes f) (table_of g was)) was image;
-  done = λ g was now ok. StepDone g (put_file (written at bytes f) (table_of g was)) was now;
+  done = λ g was now ok. Overwritten g id at bytes f was now;
 }

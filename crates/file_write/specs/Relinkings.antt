@@ -20,7 +20,7 @@ use Rattle.renew_laws.specs.Idles.{Idles}
 use Rattle.renew_laws.specs.Overwrite.{IsPatched}
 use Rattle.renew_laws.specs.Primed.{Primed}
 use Rattle.renew_laws.specs.Reserve.{CanTake}
-use Rattle.renew_laws.specs.Tails.{IsTailReady}
+use Rattle.renew_laws.specs.Tails.{IsTailReady, KeepsTails}
 use Rattle.flash_view.specs.DataPages.{data_number_of}
 use Rattle.flash_view.specs.Steps.{Step}
 use Rattle.page_renew.specs.PageSteps.{StepCut, StepDone}
@@ -28,7 +28,7 @@ use Rattle.free_search.specs.Free.{IsFreeFor}
 use Rattle.flash_view.specs.declared.kinds.Kind.TheVariants.{Data}
 use Rattle.file_write.specs.declared.relinking.Patch.{Patch}
 use Rattle.file_write.specs.declared.relinking.Spot.{Spot}
-use Rattle.file_write.specs.Overwrites.{CanOverwrite}
+use Rattle.file_write.specs.Overwrites.{CanOverwrite, Overwritten}
 
 -- the table with the bytes written
 abbrev pub patched_files : Geometry → Patch → List ℕ → File → List ℕ → List File
@@ -38,7 +38,8 @@ patched_files g patch bytes f was = put_file (written (patch.span * body g + pat
 abbrev pub EndsIn : Geometry → (size span : ℕ) → Type 0
 EndsIn g size span = (size / body g ≡ span) × (size % body g ≢ 0)
 
--- In a tidy image a file has the span, the bytes end in its page and not behind the size, all bytes below the size count as used, and an index page and a data page are to be had.
+-- In a tidy image a file has the span, the bytes end in its page and not behind the size, all bytes below the size count as used,
+-- and an index page and a data page are to be had.
 pub record CanPatch (g : Geometry) (image : List ℕ) (patch : Patch) (bytes : List ℕ) (f : File) : Type 0 where
   pub h : ℕ
   pub head : List ℕ
@@ -80,6 +81,7 @@ pub record HasCopy (g : Geometry) (was : List ℕ) (patch : Patch) (spot : Spot)
   pub patched : IsPatched g old copy patch.from patch.used bytes
   pub had : are_had g image 1 0 ≡ true
   pub reserve : HasReserve g was → HasReserve g image
+  pub tails : KeepsTails g was image
   pub flags : slice_index image (spot.page * g.page + 4) < 256
 
 -- Page p is free for the index page that names it.
@@ -102,14 +104,17 @@ pub record HasOld (g : Geometry) (was : List ℕ) (patch : Patch) (spot : Spot) 
   pub reserve : HasReserve g was → HasReserve g image
   pub flags : slice_index image (spot.page * g.page + 4) < 256
   pub ready : EndsIn g (size_of can.head) patch.span → IsTailReady g image patch.id
+  pub kept : IsTailReady g was patch.id → IsTailReady g image patch.id
 
--- Done, the file has the bytes; where it ends in that page, its tail is ready.
+-- Done, the file has the bytes; its tail is ready where it ends in that page, and where it was ready.
 pub record HasPatch (g : Geometry) (was : List ℕ) (patch : Patch) (bytes : List ℕ) (f : File) (image : List ℕ) : Type 0 where
   pub can : CanPatch g was patch bytes f
   pub step : StepDone g (patched_files g patch bytes f was) was image
   pub ready : EndsIn g (size_of can.head) patch.span → IsTailReady g image patch.id
+  pub kept : IsTailReady g was patch.id → IsTailReady g image patch.id
 
--- ---- the steps: a copy is put at a page, or where one is found; the index page is renewed, at a page or where one is found; the old page is killed; and all of it
+-- ---- the steps: a copy is put at a page, or where one is found; the index page is renewed, at a page or where one is found; the old page is killed;
+-- and all of it
 
 abbrev pub copying_to : Patch → Spot → (to : ℕ) → List ℕ → File → Step (Unit {0})
 copying_to patch spot to bytes f = record {
@@ -194,5 +199,5 @@ abbrev pub overwriting_in : (id size at : ℕ) → List ℕ → File → Step (U
 overwriting_in id size at bytes f = record {
   needs = λ g was. CanOverwriteIn g was id size at bytes f;
   cut = λ g was image. StepCut g (put_file (written at bytes f) (table_of g was)) was image;
-  done = λ g was now ok. StepDone g (put_file (written at bytes f) (table_of g was)) was now;
+  done = λ g was now ok. Overwritten g id at bytes f was now;
 }

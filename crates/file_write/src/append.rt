@@ -12,7 +12,7 @@ use crate::filling::append_inside;
 use crate::further::{append_first, append_there, find_slot};
 use flash_view::{StepErr, View};
 use geometry::Geometry;
-use nor_core::{Failed, Nor};
+use nor_core::{Failed, Nor, NorState};
 use page_renew::{Edit, Found, find_home, renew_from};
 
 // Adds bytes to a file whose header page has the entry of the new data page.
@@ -31,7 +31,8 @@ pub(crate) fn append_near<N: Nor>(
     requires whole { found.size % body v.old.geometry ≡ 0 }
     requires span { span ≡ found.size / body v.old.geometry }
     requires near { span < head_slots v.old.geometry }
-    ensures { (f : File) → Stepped stopped v.old v.new result (appending_at id found.header found.size from.now f) }
+    ensures step { (f : File) → Stepped stopped v.old v.new result (appending_at id found.header found.size from.now f) }
+    ensures few { N.device_writes v.new.nor.now ≤ N.device_writes v.old.nor.now + 10 }
 {
     match add_data(v, id, span, from) {
         Err(why) => Err(why),
@@ -56,7 +57,8 @@ fn append_far<N: Nor>(
     requires span { span ≡ found.size / body v.old.geometry }
     requires far { head_slots v.old.geometry ≤ span }
     requires other { (span - head_slots v.old.geometry) % span_slots v.old.geometry ≢ 0 }
-    ensures { (f : File) → Stepped stopped v.old v.new result (appending_at id found.header found.size from.now f) }
+    ensures step { (f : File) → Stepped stopped v.old v.new result (appending_at id found.header found.size from.now f) }
+    ensures few { N.device_writes v.new.nor.now ≤ N.device_writes v.old.nor.now + 11 }
 {
     match find_slot(v, id, span) {
         Err(Failed) => Err(StepErr::DeviceFault),
@@ -78,7 +80,8 @@ fn append_new<N: Nor>(
     requires fits { length from.now ≤ body v.old.geometry }
     requires end { (end ≡ found.size + length from.now) × (end < 0xFFFFFFFF) }
     requires whole { found.size % body v.old.geometry ≡ 0 }
-    ensures { (f : File) → Stepped stopped v.old v.new result (appending_at id found.header found.size from.now f) }
+    ensures step { (f : File) → Stepped stopped v.old v.new result (appending_at id found.header found.size from.now f) }
+    ensures few { N.device_writes v.new.nor.now ≤ N.device_writes v.old.nor.now + 14 }
 {
     let g = v.geometry;
     let span = found.size / g.body();
@@ -120,7 +123,8 @@ fn append_found<N: Nor>(
 ) -> Result<(), StepErr>
     requires header { IsEntryPage v.old.geometry found.header }
     requires id { (1 ≤ id) × (id ≤ 0x7FFE) }
-    ensures { (f : File) → Stepped stopped v.old v.new result (appending_at id found.header found.size from.now f) }
+    ensures step { (f : File) → Stepped stopped v.old v.new result (appending_at id found.header found.size from.now f) }
+    ensures few { N.device_writes v.new.nor.now ≤ N.device_writes v.old.nor.now + 14 }
 {
     let Some(end) = end_of(&v.geometry, found.size, from.len()) else {
         return Err(StepErr::Damaged(missing(id)));
@@ -135,9 +139,10 @@ fn append_found<N: Nor>(
 /// Adds bytes at the end of a file, inside one data page, in one page step: at a cut they are there or not, and a reserve
 /// that was there is there. The image is to be tidy and the file's tail ready, with a data page to be had, and an index page
 /// or, where the new data page is the first of a further index page, two; the bytes are to be some, and to end in the data
-/// page in which they begin. Where that holds, a fault of the device is the one error.
+/// page in which they begin. Where that holds, a fault of the device is the one error. It takes fourteen programs at most.
 pub fn append_step<N: Nor>(v: &mut View<'_, N>, id: u16, from: &[u8]) -> Result<(), StepErr>
-    ensures { (f : File) → Stepped stopped v.old v.new result (appending id from.now f) }
+    ensures step { (f : File) → Stepped stopped v.old v.new result (appending id from.now f) }
+    ensures few { N.device_writes v.new.nor.now ≤ N.device_writes v.old.nor.now + 14 }
 {
     match find_home(v, id) {
         Err(Failed) => Err(StepErr::DeviceFault),

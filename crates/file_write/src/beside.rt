@@ -1,5 +1,5 @@
 // Pages put beside those of a file, before its header page is renewed.
-ghost use Rattle.std.specs.Prelude.{◌≡◌, ◌<◌, ◌≤◌, length};
+ghost use Rattle.std.specs.Prelude.{◌≡◌, ◌+◌, ◌<◌, ◌≤◌, length};
 ghost use Rattle.geometry.specs.Numbers.{body, head_slots};
 ghost use Rattle.flash_view.specs.declared.kinds.Kind.TheVariants.{Data, Index};
 ghost use Rattle.flash_view.specs.Places.{IsEntryPage};
@@ -25,7 +25,8 @@ fn put_data<N: Nor>(
     requires to { IsEntryPage v.old.geometry to }
     requires id { (1 ≤ id) × (id ≤ 0x7FFE) }
     requires fits { length from.now ≤ body v.old.geometry }
-    ensures { Stepped failed v.old v.new result (putting_one to (is_data id span from.now)) }
+    ensures step { Stepped failed v.old v.new result (putting_one to (is_data id span from.now)) }
+    ensures few { N.device_writes v.new.nor.now ≤ N.device_writes v.old.nor.now + 4 }
 {
     let g = v.geometry;
     let len = g.page() as usize;
@@ -43,7 +44,8 @@ pub(crate) fn add_data<N: Nor>(
 ) -> Result<u16, StepErr>
     requires id { (1 ≤ id) × (id ≤ 0x7FFE) }
     requires fits { length from.now ≤ body v.old.geometry }
-    ensures { Stepped stopped v.old v.new result (adding Data (is_data id span from.now)) }
+    ensures step { Stepped stopped v.old v.new result (adding Data (is_data id span from.now)) }
+    ensures few { N.device_writes v.new.nor.now ≤ N.device_writes v.old.nor.now + 4 }
 {
     match free_page(v, Kind::Data, 2, None) {
         Err(Failed) => Err(StepErr::DeviceFault),
@@ -68,7 +70,8 @@ fn put_index<N: Nor>(
     requires id { (1 ≤ id) × (id ≤ 0x7FFE) }
     requires far { head_slots v.old.geometry ≤ data_span }
     requires some { 0 < span }
-    ensures { Stepped failed v.old v.new result (putting_one to (is_further id span data_span target)) }
+    ensures step { Stepped failed v.old v.new result (putting_one to (is_further id span data_span target)) }
+    ensures few { N.device_writes v.new.nor.now ≤ N.device_writes v.old.nor.now + 4 }
 {
     let g = v.geometry;
     let len = g.page() as usize;
@@ -88,7 +91,8 @@ pub(crate) fn add_index<N: Nor>(
     requires id { (1 ≤ id) × (id ≤ 0x7FFE) }
     requires far { head_slots v.old.geometry ≤ data_span }
     requires some { 0 < span }
-    ensures { Stepped stopped v.old v.new result (adding Index (is_further id span data_span target)) }
+    ensures step { Stepped stopped v.old v.new result (adding Index (is_further id span data_span target)) }
+    ensures few { N.device_writes v.new.nor.now ≤ N.device_writes v.old.nor.now + 4 }
 {
     match free_page(v, Kind::Index, 2, None) {
         Err(Failed) => Err(StepErr::DeviceFault),

@@ -1,6 +1,7 @@
 // The pages of an append, built in the bytes for work.
 ghost use Rattle.std.specs.Prelude.{◌≡◌, ℕ, ◌+◌, ◌<◌, ◌≤◌, length, slice_index, slice_range};
 ghost use Rattle.geometry.specs.Numbers.{head_slots};
+ghost use Rattle.image_model.specs.Files.{slot_at};
 ghost use Rattle.image_laws.specs.Reindex.{slot_word};
 ghost use Rattle.nor_core.specs.Flash.{SameOutside};
 
@@ -37,6 +38,7 @@ pub(crate) fn build_index(g: &Geometry, page: &mut [u8], span: u16, target: u16)
     requires far { head_slots g.now ≤ span }
     ensures size { length page.new ≡ g.now.page }
     ensures slot { slot_word g.now page.new span ≡ target }
+    ensures erased { (k : ℕ) → slot_at g.now span + 2 ≤ k → k < g.now.page → slice_index page.new k ≡ 0xFF }
     ensures bytes { (k : ℕ) → slice_index page.new k < 256 }
 {
     let len = page.len();

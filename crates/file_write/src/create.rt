@@ -1,4 +1,4 @@
-ghost use Rattle.std.specs.Prelude.{◌≢◌, ◌≤◌, length, All};
+ghost use Rattle.std.specs.Prelude.{◌≢◌, ◌+◌, ◌≤◌, length, All};
 ghost use Rattle.flash_view.specs.Places.{IsEntryPage};
 ghost use Rattle.flash_view.specs.Steps.{Stepped, failed, stopped};
 ghost use Rattle.file_write.specs.Creates.{creating_at, creating};
@@ -17,7 +17,7 @@ pub(crate) fn missing(id: u16) -> Differ
     Differ::no_page(Tag { id, span: 0 })
 }
 
-// Puts the header page of a new file: four programs, the last of which makes the file.
+// Puts the header page of a new file: four programs at most, the last of which makes the file.
 fn put_header_page<N: Nor>(
     v: &mut View<'_, N>,
     page: u16,
@@ -28,7 +28,8 @@ fn put_header_page<N: Nor>(
     requires id { (1 ≤ id) × (id ≤ 0x7FFE) }
     requires name { (1 ≤ length name.now) × (length name.now ≤ 31) }
     requires no_zero { All (λ b. b ≢ 0) name.now }
-    ensures { Stepped failed v.old v.new result (creating_at page id name.now) }
+    ensures step { Stepped failed v.old v.new result (creating_at page id name.now) }
+    ensures few { N.device_writes v.new.nor.now ≤ N.device_writes v.old.nor.now + 4 }
 {
     let g = v.geometry;
     let len = g.page() as usize;
@@ -39,12 +40,14 @@ fn put_header_page<N: Nor>(
 
 /// Makes an empty file of that name under that id, in one page step: at a cut it is there whole or not at
 /// all. The image is to be tidy with its reserve, with an index page to be had; the id and the name are to be
-/// unused, the name 1 to 31 bytes without a zero. Where that holds, a fault of the device is the one error.
+/// unused, the name 1 to 31 bytes without a zero. Where that holds, a fault of the device is the one error. It takes four
+/// programs at most.
 pub fn create_step<N: Nor>(v: &mut View<'_, N>, id: u16, name: &[u8]) -> Result<(), StepErr>
     requires id { (1 ≤ id) × (id ≤ 0x7FFE) }
     requires name { (1 ≤ length name.now) × (length name.now ≤ 31) }
     requires no_zero { All (λ b. b ≢ 0) name.now }
-    ensures { Stepped stopped v.old v.new result (creating id name.now) }
+    ensures step { Stepped stopped v.old v.new result (creating id name.now) }
+    ensures few { N.device_writes v.new.nor.now ≤ N.device_writes v.old.nor.now + 4 }
 {
     match free_page(v, Kind::Index, 2, None) {
         Err(Failed) => Err(StepErr::DeviceFault),

@@ -31,7 +31,9 @@ fn last_page<N: Nor>(
     ensures cause { OnErr result (Rose (N.faults v.old.nor.now) (N.faults v.new.nor.now)) }
     ensures looks { OnlyLooks v.old v.new }
     ensures inside { IfOk result (λ found. IfSome found (λ page. page < page_count v.old.geometry)) }
-    ensures told { N.tells v.old.nor.now → IsTidy v.old.geometry (N.bytes v.old.nor.now) → index_page v.old.geometry (own (live_at v.old.geometry (N.bytes v.old.nor.now)) id) 0 ≡ Some header → IfOk result (λ found. IsLast v.old.geometry (N.bytes v.old.nor.now) id size found) }
+    ensures told { N.tells v.old.nor.now → IsTidy v.old.geometry (N.bytes v.old.nor.now) →
+        index_page v.old.geometry (own (live_at v.old.geometry (N.bytes v.old.nor.now)) id) 0 ≡ Some header →
+        IfOk result (λ found. IsLast v.old.geometry (N.bytes v.old.nor.now) id size found) }
 {
     let g = v.geometry;
     let span = size / g.body();
@@ -59,7 +61,8 @@ fn fill_last<N: Nor>(
     requires some { 0 < length from.now }
     requires fits { found.size % body v.old.geometry + length from.now ≤ body v.old.geometry }
     requires end { (end ≡ found.size + length from.now) × (end < 0xFFFFFFFF) }
-    ensures { (f : File) → Stepped stopped v.old v.new result (filling_at id found.header found.size page from.now f) }
+    ensures step { (f : File) → Stepped stopped v.old v.new result (filling_at id found.header found.size page from.now f) }
+    ensures few { N.device_writes v.new.nor.now ≤ N.device_writes v.old.nor.now + 7 }
 {
     let at = BODY_AT + found.size % v.geometry.body();
     match fill_tail(v, page, at, from) {
@@ -82,7 +85,8 @@ pub(crate) fn append_inside<N: Nor>(
     requires fits { found.size % body v.old.geometry + length from.now ≤ body v.old.geometry }
     requires end { (end ≡ found.size + length from.now) × (end < 0xFFFFFFFF) }
     requires used { 0 < found.size % body v.old.geometry }
-    ensures { (f : File) → Stepped stopped v.old v.new result (appending_at id found.header found.size from.now f) }
+    ensures step { (f : File) → Stepped stopped v.old v.new result (appending_at id found.header found.size from.now f) }
+    ensures few { N.device_writes v.new.nor.now ≤ N.device_writes v.old.nor.now + 7 }
 {
     match last_page(v, id, found.header, found.size) {
         Err(Failed) => Err(StepErr::DeviceFault),

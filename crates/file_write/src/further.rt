@@ -27,7 +27,8 @@ pub(crate) fn find_slot<N: Nor>(
     ensures cause { OnErr result (Rose (N.faults v.old.nor.now) (N.faults v.new.nor.now)) }
     ensures looks { OnlyLooks v.old v.new }
     ensures inside { IfOk result (λ found. IfSome found (λ page. page < page_count v.old.geometry)) }
-    ensures told { N.tells v.old.nor.now → IsTidy v.old.geometry (N.bytes v.old.nor.now) → IfOk result (λ found. IsSlot v.old.geometry (N.bytes v.old.nor.now) id span found) }
+    ensures told { N.tells v.old.nor.now → IsTidy v.old.geometry (N.bytes v.old.nor.now) →
+        IfOk result (λ found. IsSlot v.old.geometry (N.bytes v.old.nor.now) id span found) }
 {
     let g = v.geometry;
     let Some(page) = seek_index(v, id, u32::from(index_span(&g, span)))? else {
@@ -56,7 +57,8 @@ pub(crate) fn append_there<N: Nor>(
     requires whole { found.size % body v.old.geometry ≡ 0 }
     requires span { span ≡ found.size / body v.old.geometry }
     requires far { head_slots v.old.geometry ≤ span }
-    ensures { (f : File) → Stepped stopped v.old v.new result (naming_at id found.header found.size index from.now f) }
+    ensures step { (f : File) → Stepped stopped v.old v.new result (naming_at id found.header found.size index from.now f) }
+    ensures few { N.device_writes v.new.nor.now ≤ N.device_writes v.old.nor.now + 11 }
 {
     match add_data(v, id, span, from) {
         Err(why) => Err(why),
@@ -84,7 +86,8 @@ pub(crate) fn append_first<N: Nor>(
     requires span { span ≡ found.size / body v.old.geometry }
     requires far { head_slots v.old.geometry ≤ span }
     requires first { (span - head_slots v.old.geometry) % span_slots v.old.geometry ≡ 0 }
-    ensures { (f : File) → Stepped stopped v.old v.new result (appending_at id found.header found.size from.now f) }
+    ensures step { (f : File) → Stepped stopped v.old v.new result (appending_at id found.header found.size from.now f) }
+    ensures few { N.device_writes v.new.nor.now ≤ N.device_writes v.old.nor.now + 14 }
 {
     let further = index_span(&v.geometry, span);
     match add_data(v, id, span, from) {

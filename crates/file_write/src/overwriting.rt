@@ -48,7 +48,8 @@ fn overwrite_in<N: Nor>(
     bytes: &[u8],
 ) -> Result<(), StepErr>
     requires id { (1 ≤ id) × (id ≤ 0x7FFE) }
-    ensures { (f : File) → Stepped stopped v.old v.new result (overwriting_in id size at bytes.now f) }
+    ensures step { (f : File) → Stepped stopped v.old v.new result (overwriting_in id size at bytes.now f) }
+    ensures few { N.device_writes v.new.nor.now ≤ N.device_writes v.old.nor.now + 12 }
 {
     match patch_at(&v.geometry, id, size, at, bytes.len()) {
         None => Err(StepErr::Damaged(missing(id))),
@@ -57,14 +58,15 @@ fn overwrite_in<N: Nor>(
 }
 
 /// Overwrites bytes inside one data page of a file, from a place on, in one page step: at a cut they are there or not. The data page
-/// is replaced by a copy that holds them, and the index page that names it by one that names the copy.
+/// is replaced by a copy that holds them, and the index page that names it by one that names the copy. It takes twelve programs at most.
 pub fn overwrite_step<N: Nor>(
     v: &mut View<'_, N>,
     id: u16,
     at: u32,
     bytes: &[u8],
 ) -> Result<(), StepErr>
-    ensures { (f : File) → Stepped stopped v.old v.new result (overwriting id at bytes.now f) }
+    ensures step { (f : File) → Stepped stopped v.old v.new result (overwriting id at bytes.now f) }
+    ensures few { N.device_writes v.new.nor.now ≤ N.device_writes v.old.nor.now + 12 }
 {
     match find_home(v, id) {
         Err(Failed) => Err(StepErr::DeviceFault),

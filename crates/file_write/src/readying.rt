@@ -1,5 +1,5 @@
 // The tail of a file is made ready for an append: its last data page or its last further index page is replaced by a copy.
-ghost use Rattle.std.specs.Prelude.{◌≡◌, ◌%◌, ◌<◌, ◌≤◌, ℕ};
+ghost use Rattle.std.specs.Prelude.{◌≡◌, ◌+◌, ◌%◌, ◌<◌, ◌≤◌, ℕ};
 ghost use Rattle.geometry.specs.Numbers.{body};
 ghost use Rattle.table_model.specs.Table.{File};
 ghost use Rattle.flash_view.specs.Places.{IsEntryPage};
@@ -21,7 +21,8 @@ fn refresh_to<N: Nor>(v: &mut View<'_, N>, id: u16, index: u16, to: u16) -> Resu
     requires index { IsEntryPage v.old.geometry index }
     requires to { IsEntryPage v.old.geometry to }
     requires id { (1 ≤ id) × (id ≤ 0x7FFE) }
-    ensures { (size : ℕ) (f : File) → Stepped failed v.old v.new result (refreshing_to id size index to f) }
+    ensures step { (size : ℕ) (f : File) → Stepped failed v.old v.new result (refreshing_to id size index to f) }
+    ensures few { N.device_writes v.new.nor.now ≤ N.device_writes v.old.nor.now + 6 }
 {
     let copied = build_copy(v, index)?;
     let tag = Tag {
@@ -35,7 +36,8 @@ fn refresh_to<N: Nor>(v: &mut View<'_, N>, id: u16, index: u16, to: u16) -> Resu
 fn refresh<N: Nor>(v: &mut View<'_, N>, id: u16, index: u16) -> Result<(), StepErr>
     requires index { IsEntryPage v.old.geometry index }
     requires id { (1 ≤ id) × (id ≤ 0x7FFE) }
-    ensures { (size : ℕ) (f : File) → Stepped stopped v.old v.new result (refreshing id size index f) }
+    ensures step { (size : ℕ) (f : File) → Stepped stopped v.old v.new result (refreshing id size index f) }
+    ensures few { N.device_writes v.new.nor.now ≤ N.device_writes v.old.nor.now + 6 }
 {
     match free_page(v, Kind::Index, 2, None) {
         Err(Failed) => Err(StepErr::DeviceFault),
@@ -52,6 +54,7 @@ fn ready_entry<N: Nor>(v: &mut View<'_, N>, id: u16, size: u32) -> Result<(), St
     requires id { (1 ≤ id) × (id ≤ 0x7FFE) }
     ensures steps { (f : File) → Stepped stopped v.old v.new result (readying_entry id size f) }
     ensures still { (f : File) → N.tells v.old.nor.now → HasReadyTailAt v.old.geometry (N.bytes v.old.nor.now) id size f → OnlyLooks v.old v.new }
+    ensures few { N.device_writes v.new.nor.now ≤ N.device_writes v.old.nor.now + 6 }
 {
     match stale_index(v, id, size) {
         Err(Failed) => Err(StepErr::DeviceFault),
@@ -64,7 +67,8 @@ fn ready_entry<N: Nor>(v: &mut View<'_, N>, id: u16, size: u32) -> Result<(), St
 fn ready_bytes<N: Nor>(v: &mut View<'_, N>, id: u16, size: u32) -> Result<(), StepErr>
     requires id { (1 ≤ id) × (id ≤ 0x7FFE) }
     requires part { 0 < size % body v.old.geometry }
-    ensures { (f : File) → Stepped stopped v.old v.new result (readying_in id size f) }
+    ensures step { (f : File) → Stepped stopped v.old v.new result (readying_in id size f) }
+    ensures few { N.device_writes v.new.nor.now ≤ N.device_writes v.old.nor.now + 12 }
 {
     let body = v.geometry.body();
     let span = size / body;
@@ -85,6 +89,7 @@ fn ready_in<N: Nor>(v: &mut View<'_, N>, id: u16, size: u32) -> Result<(), StepE
     requires id { (1 ≤ id) × (id ≤ 0x7FFE) }
     ensures steps { (f : File) → Stepped stopped v.old v.new result (readying_in id size f) }
     ensures still { (f : File) → N.tells v.old.nor.now → HasReadyTailAt v.old.geometry (N.bytes v.old.nor.now) id size f → OnlyLooks v.old v.new }
+    ensures few { N.device_writes v.new.nor.now ≤ N.device_writes v.old.nor.now + 12 }
 {
     match has_clean_bytes(v, id, size) {
         Err(Failed) => Err(StepErr::DeviceFault),
@@ -95,10 +100,11 @@ fn ready_in<N: Nor>(v: &mut View<'_, N>, id: u16, size: u32) -> Result<(), StepE
 
 /// Makes the tail of a file ready for an append, in one page step that leaves the table: its last data page is replaced by a copy with 0xFF
 /// past the size, or where those bytes are 0xFF already, the further index page by a copy with 0xFFFF behind the last entry. Where the
-/// tail is ready nothing is programmed.
+/// tail is ready nothing is programmed, else it takes twelve programs at most.
 pub fn ready_tail<N: Nor>(v: &mut View<'_, N>, id: u16) -> Result<(), StepErr>
     ensures steps { Stepped stopped v.old v.new result (readying id) }
     ensures still { N.tells v.old.nor.now → HasReadyTail v.old.geometry (N.bytes v.old.nor.now) id → OnlyLooks v.old v.new }
+    ensures few { N.device_writes v.new.nor.now ≤ N.device_writes v.old.nor.now + 12 }
 {
     match find_home(v, id) {
         Err(Failed) => Err(StepErr::DeviceFault),

@@ -65,7 +65,8 @@ fn find_spot<N: Nor>(v: &mut View<'_, N>, id: u16, span: u16) -> Result<Option<S
     ensures looks { OnlyLooks v.old v.new }
     ensures page { IfOk result (λ found. IfSome found (λ spot. IsEntryPage v.old.geometry spot.page)) }
     ensures index { IfOk result (λ found. IfSome found (λ spot. IsEntryPage v.old.geometry spot.index)) }
-    ensures told { N.tells v.old.nor.now → IsTidy v.old.geometry (N.bytes v.old.nor.now) → IfOk result (λ found. IsSpot v.old.geometry (N.bytes v.old.nor.now) id span found) }
+    ensures told { N.tells v.old.nor.now → IsTidy v.old.geometry (N.bytes v.old.nor.now) →
+        IfOk result (λ found. IsSpot v.old.geometry (N.bytes v.old.nor.now) id span found) }
 {
     let g = v.geometry;
     let number = seek_data(v, id, span)?;
@@ -108,7 +109,8 @@ fn build_patched<N: Nor>(
     requires fits { patch.from + length bytes.now ≤ patch.used }
     ensures cause { OnErr result (Rose (N.faults v.old.nor.now) (N.faults v.new.nor.now)) }
     ensures looks { OnlyLooks v.old v.new }
-    ensures told { N.tells v.old.nor.now → OnOk result (IsPatchedCopy v.old.geometry (N.bytes v.old.nor.now) page patch.from patch.used bytes.now v.new.work.now) }
+    ensures told { N.tells v.old.nor.now →
+        OnOk result (IsPatchedCopy v.old.geometry (N.bytes v.old.nor.now) page patch.from patch.used bytes.now v.new.work.now) }
 {
     build_data(v, page)?;
     let len = v.geometry.page() as usize;
@@ -130,7 +132,8 @@ fn copy_to<N: Nor>(
     requires id { (1 ≤ patch.id) × (patch.id ≤ 0x7FFE) }
     requires used { patch.used ≤ body v.old.geometry }
     requires fits { patch.from + length bytes.now ≤ patch.used }
-    ensures { (f : File) → Stepped failed v.old v.new result (copying_to patch spot to bytes.now f) }
+    ensures step { (f : File) → Stepped failed v.old v.new result (copying_to patch spot to bytes.now f) }
+    ensures few { N.device_writes v.new.nor.now ≤ N.device_writes v.old.nor.now + 4 }
 {
     build_patched(v, spot.page, patch, bytes)?;
     let tag = Tag {
@@ -146,7 +149,8 @@ fn copy<N: Nor>(v: &mut View<'_, N>, patch: Patch, spot: Spot, bytes: &[u8]) -> 
     requires id { (1 ≤ patch.id) × (patch.id ≤ 0x7FFE) }
     requires used { patch.used ≤ body v.old.geometry }
     requires fits { patch.from + length bytes.now ≤ patch.used }
-    ensures { (f : File) → Stepped stopped v.old v.new result (copying patch spot bytes.now f) }
+    ensures step { (f : File) → Stepped stopped v.old v.new result (copying patch spot bytes.now f) }
+    ensures few { N.device_writes v.new.nor.now ≤ N.device_writes v.old.nor.now + 4 }
 {
     match free_page(v, Kind::Data, 2, None) {
         Err(Failed) => Err(StepErr::DeviceFault),
@@ -169,7 +173,8 @@ fn rename_to<N: Nor>(
     requires index { IsEntryPage v.old.geometry spot.index }
     requires at { IsEntryPage v.old.geometry at }
     requires id { (1 ≤ patch.id) × (patch.id ≤ 0x7FFE) }
-    ensures { (was bytes : List ℕ) (f : File) → Stepped failed v.old v.new result (renaming_to was patch spot to at bytes f) }
+    ensures step { (was bytes : List ℕ) (f : File) → Stepped failed v.old v.new result (renaming_to was patch spot to at bytes f) }
+    ensures few { N.device_writes v.new.nor.now ≤ N.device_writes v.old.nor.now + 6 }
 {
     build_renamed(v, spot.index, patch.span, to)?;
     let tag = Tag {
@@ -183,7 +188,8 @@ fn rename_to<N: Nor>(
 fn rename<N: Nor>(v: &mut View<'_, N>, patch: Patch, spot: Spot, to: u16) -> Result<(), StepErr>
     requires index { IsEntryPage v.old.geometry spot.index }
     requires id { (1 ≤ patch.id) × (patch.id ≤ 0x7FFE) }
-    ensures { (was bytes : List ℕ) (f : File) → Stepped stopped v.old v.new result (renaming was patch spot to bytes f) }
+    ensures step { (was bytes : List ℕ) (f : File) → Stepped stopped v.old v.new result (renaming was patch spot to bytes f) }
+    ensures few { N.device_writes v.new.nor.now ≤ N.device_writes v.old.nor.now + 6 }
 {
     match free_page(v, Kind::Index, 2, None) {
         Err(Failed) => Err(StepErr::DeviceFault),
@@ -198,7 +204,8 @@ fn rename<N: Nor>(v: &mut View<'_, N>, patch: Patch, spot: Spot, to: u16) -> Res
 // Kills the old data page.
 fn drop_old<N: Nor>(v: &mut View<'_, N>, patch: Patch, spot: Spot) -> Result<(), StepErr>
     requires page { IsEntryPage v.old.geometry spot.page }
-    ensures { (was bytes : List ℕ) (f : File) → Stepped stopped v.old v.new result (dropping was patch spot bytes f) }
+    ensures step { (was bytes : List ℕ) (f : File) → Stepped stopped v.old v.new result (dropping was patch spot bytes f) }
+    ensures few { N.device_writes v.new.nor.now ≤ N.device_writes v.old.nor.now + 2 }
 {
     match kill(v, spot.page) {
         Err(Failed) => Err(StepErr::DeviceFault),
@@ -211,7 +218,8 @@ fn end_copy<N: Nor>(v: &mut View<'_, N>, patch: Patch, spot: Spot, to: u16) -> R
     requires page { IsEntryPage v.old.geometry spot.page }
     requires index { IsEntryPage v.old.geometry spot.index }
     requires id { (1 ≤ patch.id) × (patch.id ≤ 0x7FFE) }
-    ensures { (was bytes : List ℕ) (f : File) → Stepped stopped v.old v.new result (ending was patch spot to bytes f) }
+    ensures step { (was bytes : List ℕ) (f : File) → Stepped stopped v.old v.new result (ending was patch spot to bytes f) }
+    ensures few { N.device_writes v.new.nor.now ≤ N.device_writes v.old.nor.now + 8 }
 {
     rename(v, patch, spot, to)?;
     drop_old(v, patch, spot)
@@ -229,7 +237,8 @@ fn replace_at<N: Nor>(
     requires id { (1 ≤ patch.id) × (patch.id ≤ 0x7FFE) }
     requires used { patch.used ≤ body v.old.geometry }
     requires fits { patch.from + length bytes.now ≤ patch.used }
-    ensures { (f : File) → Stepped stopped v.old v.new result (replacing_at patch spot bytes.now f) }
+    ensures step { (f : File) → Stepped stopped v.old v.new result (replacing_at patch spot bytes.now f) }
+    ensures few { N.device_writes v.new.nor.now ≤ N.device_writes v.old.nor.now + 12 }
 {
     let to = copy(v, patch, spot, bytes)?;
     end_copy(v, patch, spot, to)
@@ -245,7 +254,8 @@ pub(crate) fn replace_page<N: Nor>(
     requires id { (1 ≤ patch.id) × (patch.id ≤ 0x7FFE) }
     requires used { patch.used ≤ body v.old.geometry }
     requires fits { patch.from + length bytes.now ≤ patch.used }
-    ensures { (f : File) → Stepped stopped v.old v.new result (replacing patch bytes.now f) }
+    ensures step { (f : File) → Stepped stopped v.old v.new result (replacing patch bytes.now f) }
+    ensures few { N.device_writes v.new.nor.now ≤ N.device_writes v.old.nor.now + 12 }
 {
     match find_spot(v, patch.id, patch.span) {
         Err(Failed) => Err(StepErr::DeviceFault),

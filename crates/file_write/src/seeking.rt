@@ -26,7 +26,8 @@ fn named_data<N: Nor>(
     requires span { span < 2 ^ 16 }
     ensures cause { OnErr result (Rose (N.faults v.old.nor.now) (N.faults v.new.nor.now)) }
     ensures looks { OnlyLooks v.old v.new }
-    ensures told { N.tells v.old.nor.now → IsTidy v.old.geometry (N.bytes v.old.nor.now) → IfOk result (λ page. page ≡ data_number v.old.geometry (own (live_at v.old.geometry (N.bytes v.old.nor.now)) id) (page_of v.old.geometry (N.bytes v.old.nor.now) header) span) }
+    ensures told { N.tells v.old.nor.now → IsTidy v.old.geometry (N.bytes v.old.nor.now) → IfOk result (λ page. page
+        ≡ data_number v.old.geometry (own (live_at v.old.geometry (N.bytes v.old.nor.now)) id) (page_of v.old.geometry (N.bytes v.old.nor.now) header) span) }
 {
     let g = v.geometry;
     let at = entry_place(&g, span);
@@ -49,7 +50,9 @@ pub(crate) fn data_by<N: Nor>(
     requires { header < page_count v.old.geometry }
     ensures cause { OnErr result (Rose (N.faults v.old.nor.now) (N.faults v.new.nor.now)) }
     ensures looks { OnlyLooks v.old v.new }
-    ensures told { N.tells v.old.nor.now → IsTidy v.old.geometry (N.bytes v.old.nor.now) → index_page v.old.geometry (own (live_at v.old.geometry (N.bytes v.old.nor.now)) id) 0 ≡ Some header → IfOk result (λ page. page ≡ data_number_of v.old.geometry (N.bytes v.old.nor.now) id span) }
+    ensures told { N.tells v.old.nor.now → IsTidy v.old.geometry (N.bytes v.old.nor.now) →
+        index_page v.old.geometry (own (live_at v.old.geometry (N.bytes v.old.nor.now)) id) 0 ≡ Some header →
+        IfOk result (λ page. page ≡ data_number_of v.old.geometry (N.bytes v.old.nor.now) id span) }
 {
     named_data(v, id, header, u32::from(span))
 }
@@ -64,7 +67,8 @@ pub(crate) fn seek_data<N: Nor>(
 ) -> Result<Option<u16>, Failed>
     ensures cause { OnErr result (Rose (N.faults v.old.nor.now) (N.faults v.new.nor.now)) }
     ensures looks { OnlyLooks v.old v.new }
-    ensures told { N.tells v.old.nor.now → IsTidy v.old.geometry (N.bytes v.old.nor.now) → IfOk result (λ page. page ≡ data_number_of v.old.geometry (N.bytes v.old.nor.now) id span) }
+    ensures told { N.tells v.old.nor.now → IsTidy v.old.geometry (N.bytes v.old.nor.now) →
+        IfOk result (λ page. page ≡ data_number_of v.old.geometry (N.bytes v.old.nor.now) id span) }
 {
     match v.seek_header(id)? {
         Some(header) => data_by(v, id, header, span),

@@ -51,8 +51,12 @@ fn is_clean_by<N: Nor>(v: &mut View<'_, N>, id: u16, header: u16, size: u32) -> 
     ensures cause { OnErr result (Rose (N.faults v.old.nor.now) (N.faults v.new.nor.now)) }
     ensures looks { OnlyLooks v.old v.new }
     ensures part { IfOk result (λ clean. OnFalse clean (0 < size % body v.old.geometry)) }
-    ensures told { N.tells v.old.nor.now → IsTidy v.old.geometry (N.bytes v.old.nor.now) → index_page v.old.geometry (own (live_at v.old.geometry (N.bytes v.old.nor.now)) id) 0 ≡ Some header → IfOk result (λ clean. OnTrue clean (HasOnes v.old.geometry (N.bytes v.old.nor.now) id size)) }
-    ensures other { N.tells v.old.nor.now → IsTidy v.old.geometry (N.bytes v.old.nor.now) → index_page v.old.geometry (own (live_at v.old.geometry (N.bytes v.old.nor.now)) id) 0 ≡ Some header → IfOk result (λ clean. OnFalse clean (HasOther v.old.geometry (N.bytes v.old.nor.now) id size)) }
+    ensures told { N.tells v.old.nor.now → IsTidy v.old.geometry (N.bytes v.old.nor.now) →
+        index_page v.old.geometry (own (live_at v.old.geometry (N.bytes v.old.nor.now)) id) 0 ≡ Some header →
+        IfOk result (λ clean. OnTrue clean (HasOnes v.old.geometry (N.bytes v.old.nor.now) id size)) }
+    ensures other { N.tells v.old.nor.now → IsTidy v.old.geometry (N.bytes v.old.nor.now) →
+        index_page v.old.geometry (own (live_at v.old.geometry (N.bytes v.old.nor.now)) id) 0 ≡ Some header →
+        IfOk result (λ clean. OnFalse clean (HasOther v.old.geometry (N.bytes v.old.nor.now) id size)) }
 {
     let g = v.geometry;
     let used = size % g.body();
@@ -82,8 +86,10 @@ pub(crate) fn has_clean_bytes<N: Nor>(
     ensures cause { OnErr result (Rose (N.faults v.old.nor.now) (N.faults v.new.nor.now)) }
     ensures looks { OnlyLooks v.old v.new }
     ensures part { IfOk result (λ clean. OnFalse clean (0 < size % body v.old.geometry)) }
-    ensures told { N.tells v.old.nor.now → IsTidy v.old.geometry (N.bytes v.old.nor.now) → IfOk result (λ clean. OnTrue clean (HasOnes v.old.geometry (N.bytes v.old.nor.now) id size)) }
-    ensures other { N.tells v.old.nor.now → IsTidy v.old.geometry (N.bytes v.old.nor.now) → IfOk result (λ clean. OnFalse clean (HasOther v.old.geometry (N.bytes v.old.nor.now) id size)) }
+    ensures told { N.tells v.old.nor.now → IsTidy v.old.geometry (N.bytes v.old.nor.now) →
+        IfOk result (λ clean. OnTrue clean (HasOnes v.old.geometry (N.bytes v.old.nor.now) id size)) }
+    ensures other { N.tells v.old.nor.now → IsTidy v.old.geometry (N.bytes v.old.nor.now) →
+        IfOk result (λ clean. OnFalse clean (HasOther v.old.geometry (N.bytes v.old.nor.now) id size)) }
 {
     match v.seek_header(id)? {
         Some(header) => is_clean_by(v, id, header, size),
@@ -91,8 +97,8 @@ pub(crate) fn has_clean_bytes<N: Nor>(
     }
 }
 
-// The further index page with the entry of the span behind the last of a file of that size, where that entry isn't 0xFFFF, in a
-// tidy image.
+// The further index page with the entry of the span behind the last of a file of that size, where its bytes from there on aren't
+// all 0xFF, in a tidy image.
 #[tactic(auto, using(flash_view::proofs::Looking::looks_then))]
 pub(crate) fn stale_index<N: Nor>(
     v: &mut View<'_, N>,
@@ -102,7 +108,8 @@ pub(crate) fn stale_index<N: Nor>(
     ensures cause { OnErr result (Rose (N.faults v.old.nor.now) (N.faults v.new.nor.now)) }
     ensures looks { OnlyLooks v.old v.new }
     ensures entry { IfOk result (λ found. IfSome found (λ p. IsEntryPage v.old.geometry p)) }
-    ensures told { N.tells v.old.nor.now → IsTidy v.old.geometry (N.bytes v.old.nor.now) → IfOk result (λ found. IsStale v.old.geometry (N.bytes v.old.nor.now) id size found) }
+    ensures told { N.tells v.old.nor.now → IsTidy v.old.geometry (N.bytes v.old.nor.now) →
+        IfOk result (λ found. IsStale v.old.geometry (N.bytes v.old.nor.now) id size found) }
     ensures taken { N.tells v.old.nor.now → IfOk result (λ found. IfSome found (IsTaken v.old.geometry (N.bytes v.old.nor.now) size)) }
 {
     let g = v.geometry;
@@ -113,20 +120,21 @@ pub(crate) fn stale_index<N: Nor>(
     let Some(index) = seek_index(v, id, wide_index_span(&g, count))? else {
         return Ok(None);
     };
-    let word = v.word_in(index, entry_place(&g, count))?;
-    if word == 0xFFFF || !is_entry_page(&g, index) {
+    let free = ends_in_ones(v, index, entry_place(&g, count))?;
+    if free || !is_entry_page(&g, index) {
         return Ok(None);
     }
     Ok(Some(index))
 }
 
-/// Whether the tail of a file is ready for an append: the bytes of its last data page past its size are 0xFF, and the entry of the span
-/// behind its last one is 0xFFFF, where a further index page has it.
+/// Whether the tail of a file is ready for an append: the bytes of its last data page past its size are 0xFF, and so are those of a
+/// further index page from the entry of the span behind its last one on.
 #[tactic(auto, using(flash_view::proofs::Looking::looks_then))]
 pub fn is_tail_ready<N: Nor>(v: &mut View<'_, N>, id: u16) -> Result<bool, Failed>
     ensures cause { OnErr result (Rose (N.faults v.old.nor.now) (N.faults v.new.nor.now)) }
     ensures looks { OnlyLooks v.old v.new }
-    ensures told { N.tells v.old.nor.now → IsTidy v.old.geometry (N.bytes v.old.nor.now) → has_id id (table_of v.old.geometry (N.bytes v.old.nor.now)) ≡ true → IfOk result (λ ready. (ready ≡ true) ↔ IsTailReady v.old.geometry (N.bytes v.old.nor.now) id) }
+    ensures told { N.tells v.old.nor.now → IsTidy v.old.geometry (N.bytes v.old.nor.now) → has_id id (table_of v.old.geometry (N.bytes v.old.nor.now)) ≡ true →
+        IfOk result (λ ready. (ready ≡ true) ↔ IsTailReady v.old.geometry (N.bytes v.old.nor.now) id) }
 {
     let Some(Found { header, size }) = find_home(v, id)? else {
         return Ok(false);

@@ -23,7 +23,8 @@ pub(crate) fn is_inside(event: &Event, size: usize, unit: u32) -> bool
 
 // Whether a program asked for some bytes, got as many, and is inside so many bytes.
 fn are_inside(at: u32, asked: &Bytes, got: &Bytes, size: usize) -> bool
-    ensures { IsTrue result ↔ ((0 < length asked.now.bytes.items) × (length got.now.bytes.items ≡ length asked.now.bytes.items) × (at + length asked.now.bytes.items ≤ size)) }
+    ensures { IsTrue result
+        ↔ ((0 < length asked.now.bytes.items) × (length got.now.bytes.items ≡ length asked.now.bytes.items) × (at + length asked.now.bytes.items ≤ size)) }
 {
     let count = asked.as_slice().len();
     count > 0 && got.as_slice().len() == count && at as usize <= size && count <= size - at as usize

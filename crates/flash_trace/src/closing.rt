@@ -21,7 +21,8 @@ use std::alloc::{AllocError, Global};
 // The line that ends a run for too few free blocks, with no block to clean.
 fn tight_line(alloc: Global, g: &Geometry, image: &[u8]) -> Result<Option<Vec<u8>>, AllocError>
     requires { IsImage g.now image.now }
-    ensures { IfOk result (λ line. option_map (λ l. l.items) line ≡ (if nat_lt (the_free_blocks g.now image.now) 2 && not (is_some (the_chosen g.now image.now)) then Some (tight_text (the_free_blocks g.now image.now)) else None)) }
+    ensures { IfOk result (λ line. option_map (λ l. l.items) line ≡ (if nat_lt (the_free_blocks g.now image.now) 2 && not (is_some (the_chosen g.now image.now))
+        then Some (tight_text (the_free_blocks g.now image.now)) else None)) }
 {
     let free = free_blocks(g, image);
     if free >= 2 {

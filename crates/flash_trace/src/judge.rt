@@ -141,7 +141,8 @@ pub fn check_trace(
     requires image { length first.now ≡ g.now.blocks * g.now.block }
     requires slots { (1 ≤ slots) × (slots ≤ 65535) }
     ensures large { IsLarge first.now script.now → IfOk result (λ v. v ≡ TooLarge) }
-    ensures verdict { (IsLarge first.now script.now → ⊥) → IfOk result (λ v. IsTraceVerdict g.now slots first.now script.now 0 events.now (at_first first.now) v) }
+    ensures verdict { (IsLarge first.now script.now → ⊥) →
+        IfOk result (λ v. IsTraceVerdict g.now slots first.now script.now 0 events.now (at_first first.now) v) }
 {
     if is_large(first, script) {
         return Ok(Verdict::TooLarge);

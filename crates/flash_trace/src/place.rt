@@ -46,7 +46,8 @@ fn look_ahead(
 ) -> Result<Found, AllocError>
     requires at { at ≤ length case.now.script.now }
     requires line { line ≤ at + 1 }
-    ensures { IfOk result (λ found. IsFound (geometry_of moment.now) (moment_of moment.now) case.now.script.now (calls_of (lines (drop at case.now.script.now))) (first_bad line (lines (drop at case.now.script.now))) found.ahead found.at found.line) }
+    ensures { IfOk result (λ found. IsFound (geometry_of moment.now) (moment_of moment.now) case.now.script.now (calls_of (lines (drop at case.now.script.now)))
+        (first_bad line (lines (drop at case.now.script.now))) found.ahead found.at found.line) }
 {
     let mut place = at;
     let mut number = line;

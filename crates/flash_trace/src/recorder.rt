@@ -270,7 +270,8 @@ impl Nor for Recorder {
       all_said = (only_last d.board.unit d.board.calls.items d.board.first.items 0 image count left).1 ∙ d.board.spoken;
     } };
 
-    ghost counts_now = { λ d t le tells. now_counts d.board.unit d.board.calls.items d.board.first.items 0 t d.board.bytes.items (length d.board.said.items) d.board.stands d.board.spoken };
+    ghost counts_now = { λ d t le tells.
+        now_counts d.board.unit d.board.calls.items d.board.first.items 0 t d.board.bytes.items (length d.board.said.items) d.board.stands d.board.spoken };
 }
 
 impl Board for Recorder {

@@ -2,6 +2,7 @@
 use Rattle.std.proofs.Common.{◌≡◌, ℕ, List, true, false, refl, sym, ◌∙◌, arith, ap, ⊎_elim, subst, Result, Ok, Err, MatchResult, IsErrOf, OnErr, OnOk, IsErr, IfErr, length}
 use Rattle.std.specs.Prelude.{IsErrAnd}
 use Rattle.std.proofs.lemmas.Bool.{cases_Bool}
+use Rattle.std.proofs.lemmas.Result.{on_ok_weaker}
 use Rattle.geometry.specs.declared.geometry.Geometry.{Geometry}
 use Rattle.image_model.specs.Places.{IsImage}
 use Rattle.nor_core.specs.declared.device.Failed.{Failed}
@@ -12,7 +13,9 @@ use Rattle.nor_core.proofs.Cuts.{wider, go_on, unchanged, after_reads, reads_the
 use Rattle.page_cache.proofs.Held.{few_none}
 use Rattle.flash_view.specs.declared.view.View.{View}
 use Rattle.flash_view.specs.Same.{StaysBehind, IsSameView, OnlyLooks, OnlyCounts}
-use Rattle.trim_laws.specs.Trim.{Trims}
+use Rattle.trim_laws.specs.Upkeep.{Upkeep}
+use Rattle.trim_laws.specs.Wear.{Worn}
+use Rattle.trim_laws.proofs.Wears.{upkeep_none, upkeep_then, worn_none, worn_then}
 use Rattle.flash_view.proofs.Behind.{behind_none}
 use Rattle.flash_view.proofs.Looking.{same_then, looks_counts}
 use Rattle.flash_view.specs.Steps.{Step, Errors, Framed, Stepped, Begins, Finishes, acting, making, failed, IsRebuilt}
@@ -20,6 +23,11 @@ use Rattle.flash_view.specs.Steps.{Step, Errors, Framed, Stepped, Begins, Finish
 on_ok : {T E : Type 0} (r : Result T E) (fault : E) (P Q : T → Type 0) → ((x : T) → P x → Q x) → MatchResult r P (λ why. why ≡ fault) → MatchResult r Q (λ why. why ≡ fault)
 on_ok (Ok x) fault P Q f h = f x h
 on_ok (Err e) fault P Q f h = h
+
+-- what holds at all does where a call is done
+pub on_done : {T E : Type 0} (r : Result T E) {P : Type 0} → P → OnOk r P
+on_done (Ok x) h = h
+on_done (Err e) h = tt
 
 -- a fault of a device is the one that there is
 pub one_fault : (e : Failed) → e ≡ failed.fault
@@ -75,7 +83,9 @@ module _ {N : Type 0} {nor : NorOf N} where
       means = means;
       cuts = after_reads looks.reads (unchanged new.nor.now _ (λ tells need. subst (λ (a : List ℕ). step.needs old.geometry a → step.cut old.geometry a a) (sym looks.reads.bytes) (λ n. (law (looks.reads.told_before tells) n).0) need));
       ends = λ tells need. subst (λ (b : List ℕ). MatchResult r (step.done old.geometry (nor.bytes old.nor.now) b) (λ why. why ≡ errors.fault)) (sym looks.reads.bytes) (law tells need).1;
-      trims = after_reads looks.reads (unchanged new.nor.now _ (λ tells need trim. trim));
+      upkeep = after_reads looks.reads (unchanged new.nor.now _ (λ tells need. upkeep_none old.geometry _));
+      worn = λ tells need. on_done r (subst (λ (b : List ℕ). Worn old.geometry (nor.bytes old.nor.now) b) (sym looks.reads.bytes) (worn_none old.geometry (nor.bytes old.nor.now)));
+      stands = λ tells need stood. on_done r (looks.counted ∙ stood);
     }
 
   -- work alone
@@ -110,15 +120,23 @@ module _ {N : Type 0} {nor : NorOf N} where
         let ends : nor.tells mid.nor.now → last.needs old.geometry (nor.bytes old.nor.now) → MatchResult r (last.done old.geometry (nor.bytes old.nor.now) (nor.bytes new.nor.now)) (λ why. why ≡ errors.fault) =
         subst (λ (a : List ℕ). nor.tells mid.nor.now → last.needs old.geometry a → MatchResult r (last.done old.geometry a (nor.bytes new.nor.now)) (λ why. why ≡ errors.fault)) looks.reads.bytes
         (subst (λ (k : Geometry). nor.tells mid.nor.now → last.needs k (nor.bytes mid.nor.now) → MatchResult r (last.done k (nor.bytes mid.nor.now) (nor.bytes new.nor.now)) (λ why. why ≡ errors.fault)) looks.same.geometry call.ends) in
-        let trims : Changes nor mid.nor.now new.nor.now (λ was image. last.needs old.geometry was → Trims old.geometry was image) =
-        subst (λ (k : Geometry). Changes nor mid.nor.now new.nor.now (λ was image. last.needs k was → Trims k was image)) looks.same.geometry call.trims in
+        let upkeep : Changes nor mid.nor.now new.nor.now (λ was image. last.needs old.geometry was → Upkeep old.geometry was image) =
+        subst (λ (k : Geometry). Changes nor mid.nor.now new.nor.now (λ was image. last.needs k was → Upkeep k was image)) looks.same.geometry call.upkeep in
+        let worn : nor.tells mid.nor.now → last.needs old.geometry (nor.bytes old.nor.now) → OnOk r (Worn old.geometry (nor.bytes old.nor.now) (nor.bytes new.nor.now)) =
+        subst (λ (a : List ℕ). nor.tells mid.nor.now → last.needs old.geometry a → OnOk r (Worn old.geometry a (nor.bytes new.nor.now))) looks.reads.bytes
+        (subst (λ (k : Geometry). nor.tells mid.nor.now → last.needs k (nor.bytes mid.nor.now) → OnOk r (Worn k (nor.bytes mid.nor.now) (nor.bytes new.nor.now))) looks.same.geometry call.worn) in
+        let stands : nor.tells mid.nor.now → last.needs old.geometry (nor.bytes old.nor.now) → mid.counted ≡ true → OnOk r (new.counted ≡ true) =
+        subst (λ (a : List ℕ). nor.tells mid.nor.now → last.needs old.geometry a → mid.counted ≡ true → OnOk r (new.counted ≡ true)) looks.reads.bytes
+        (subst (λ (k : Geometry). nor.tells mid.nor.now → last.needs k (nor.bytes mid.nor.now) → mid.counted ≡ true → OnOk r (new.counted ≡ true)) looks.same.geometry call.stands) in
         record {
           framed = framed_then (framed_looks looks) call.framed;
           cause = λ e. let rose = call.cause e in let more = looks.same.faults in omega arith;
           means = call.means;
           cuts = wider (after_reads looks.reads cuts) (λ tells image cut need. let l = law tells need in l.cut image (cut l.needs));
           ends = λ tells need. let l = law tells need in on_ok r errors.fault _ _ (λ x done. l.done _ x done) (ends (looks.reads.told tells) l.needs);
-          trims = wider (after_reads looks.reads trims) (λ tells image trim need. trim (law tells need).needs);
+          upkeep = wider (after_reads looks.reads upkeep) (λ tells image kept need. kept (law tells need).needs);
+          worn = λ tells need. worn (looks.reads.told tells) (law tells need).needs;
+          stands = λ tells need stood. stands (looks.reads.told tells) (law tells need).needs (looks.counted ∙ stood);
         }
 
   -- ---- the start of a call
@@ -128,10 +146,10 @@ module _ {N : Type 0} {nor : NorOf N} where
       Changes nor old.nor.now new.nor.now (λ was image. whole.needs old.geometry was → whole.cut old.geometry was image)
   starts call begins = wider call.cuts (λ tells image cut need. let b = begins tells need in b.cut image (cut b.needs))
 
-  starts_trim : {S T D : Type 0} {before : Errors D} {old new : View N nor} {r : Result S D} {first : Step S} {whole : Step T} → Stepped before old new r first →
+  starts_upkeep : {S T D : Type 0} {before : Errors D} {old new : View N nor} {r : Result S D} {first : Step S} {whole : Step T} → Stepped before old new r first →
       (nor.tells old.nor.now → whole.needs old.geometry (nor.bytes old.nor.now) → Begins old.geometry (nor.bytes old.nor.now) first whole) →
-      Changes nor old.nor.now new.nor.now (λ was image. whole.needs old.geometry was → Trims old.geometry was image)
-  starts_trim call begins = wider call.trims (λ tells image trim need. trim (begins tells need).needs)
+      Changes nor old.nor.now new.nor.now (λ was image. whole.needs old.geometry was → Upkeep old.geometry was image)
+  starts_upkeep call begins = wider call.upkeep (λ tells image kept need. kept (begins tells need).needs)
 
   -- ---- a call after another
 
@@ -146,8 +164,12 @@ module _ {N : Type 0} {nor : NorOf N} where
         subst (λ (k : Geometry). Changes nor mid.nor.now new.nor.now (λ was image. last.needs k was → last.cut k was image)) call.framed.same.geometry next.cuts in
         let ends : nor.tells mid.nor.now → last.needs old.geometry (nor.bytes mid.nor.now) → MatchResult r (last.done old.geometry (nor.bytes mid.nor.now) (nor.bytes new.nor.now)) (λ why. why ≡ errors.fault) =
         subst (λ (k : Geometry). nor.tells mid.nor.now → last.needs k (nor.bytes mid.nor.now) → MatchResult r (last.done k (nor.bytes mid.nor.now) (nor.bytes new.nor.now)) (λ why. why ≡ errors.fault)) call.framed.same.geometry next.ends in
-        let trims : Changes nor mid.nor.now new.nor.now (λ was image. last.needs old.geometry was → Trims old.geometry was image) =
-        subst (λ (k : Geometry). Changes nor mid.nor.now new.nor.now (λ was image. last.needs k was → Trims k was image)) call.framed.same.geometry next.trims in
+        let upkeep : Changes nor mid.nor.now new.nor.now (λ was image. last.needs old.geometry was → Upkeep old.geometry was image) =
+        subst (λ (k : Geometry). Changes nor mid.nor.now new.nor.now (λ was image. last.needs k was → Upkeep k was image)) call.framed.same.geometry next.upkeep in
+        let worn : nor.tells mid.nor.now → last.needs old.geometry (nor.bytes mid.nor.now) → OnOk r (Worn old.geometry (nor.bytes mid.nor.now) (nor.bytes new.nor.now)) =
+        subst (λ (k : Geometry). nor.tells mid.nor.now → last.needs k (nor.bytes mid.nor.now) → OnOk r (Worn k (nor.bytes mid.nor.now) (nor.bytes new.nor.now))) call.framed.same.geometry next.worn in
+        let stands : nor.tells mid.nor.now → last.needs old.geometry (nor.bytes mid.nor.now) → mid.counted ≡ true → OnOk r (new.counted ≡ true) =
+        subst (λ (k : Geometry). nor.tells mid.nor.now → last.needs k (nor.bytes mid.nor.now) → mid.counted ≡ true → OnOk r (new.counted ≡ true)) call.framed.same.geometry next.stands in
         record {
           framed = framed_then call.framed next.framed;
           cause = λ e. let rose = next.cause e in let more = call.framed.same.faults in omega arith;
@@ -155,7 +177,13 @@ module _ {N : Type 0} {nor : NorOf N} where
           cuts = go_on (wider call.cuts (λ tells image cut need. let b = begins tells need in b.cut image (cut b.needs))) cuts
               (λ tells image was cut need. let f = finishes tells need (call.ends tells (begins tells need).needs) in f.cut image (cut f.needs));
           ends = λ tells need. let f = finishes tells need (call.ends tells (begins tells need).needs) in on_ok r errors.fault _ _ (λ y done. f.done _ y done) (ends (call.cuts.cuts.told tells) f.needs);
-          trims = go_on (starts_trim call begins) trims (λ tells image before trim need was. let f = finishes tells need (call.ends tells (begins tells need).needs) in trim f.needs (before need was));
+          upkeep = go_on (starts_upkeep call begins) upkeep (λ tells image before kept need.
+              let b = begins tells need in
+              upkeep_then old.geometry _ _ _ (before need) (call.worn tells b.needs) (kept (finishes tells need (call.ends tells b.needs)).needs));
+          worn = λ tells need.
+              let b = begins tells need in
+              on_ok_weaker r (worn_then old.geometry _ _ _ (call.worn tells b.needs)) (worn (call.cuts.cuts.told tells) (finishes tells need (call.ends tells b.needs)).needs);
+          stands = λ tells need stood. let b = begins tells need in stands (call.cuts.cuts.told tells) (finishes tells need (call.ends tells b.needs)).needs (call.stands tells b.needs stood);
         }
 
   -- ---- the ends of a call
@@ -170,7 +198,9 @@ module _ {N : Type 0} {nor : NorOf N} where
       means = means;
       cuts = starts call begins;
       ends = λ tells need. on (call.ends tells (begins tells need).needs);
-      trims = starts_trim call begins;
+      upkeep = starts_upkeep call begins;
+      worn = λ tells need. tt;
+      stands = λ tells need stood. tt;
     }
       where
         ap_err : {x y : D} → x ≡ y → ◌≡◌ {A = Result S D} (Err x) (Err y)
@@ -186,7 +216,9 @@ module _ {N : Type 0} {nor : NorOf N} where
       means = tt;
       cuts = starts call begins;
       ends = λ tells need. ends tells need (call.ends tells (begins tells need).needs);
-      trims = starts_trim call begins;
+      upkeep = starts_upkeep call begins;
+      worn = λ tells need. call.worn tells (begins tells need).needs;
+      stands = λ tells need stood. call.stands tells (begins tells need).needs stood;
     }
 
   -- a step on the same view as a weaker one
@@ -198,20 +230,25 @@ module _ {N : Type 0} {nor : NorOf N} where
     means = call.means;
     cuts = wider call.cuts (λ tells image cut need. let l = law tells need in l.cut image (cut l.needs));
     ends = λ tells need. let l = law tells need in on_ok r errors.fault _ _ (λ x done. l.done _ x done) (call.ends tells l.needs);
-    trims = wider call.trims (λ tells image trim need. trim (law tells need).needs);
+    upkeep = wider call.upkeep (λ tells image kept need. kept (law tells need).needs);
+    worn = λ tells need. call.worn tells (law tells need).needs;
+    stands = λ tells need stood. call.stands tells (law tells need).needs stood;
   }
 
   -- programs
-  pub acted : {old new : View N nor} {r : Result (Unit {0}) Failed} (R D : Geometry → List ℕ → List ℕ → Type 0) → IsSameView old new → new.wrote ≡ true →
+  pub acted : {old new : View N nor} {r : Result (Unit {0}) Failed} (U : Geometry → List ℕ → Type 0) (R D : Geometry → List ℕ → List ℕ → Type 0) → IsSameView old new → new.wrote ≡ true →
       OnErr r (Rose (nor.faults old.nor.now) (nor.faults new.nor.now)) → Changes nor old.nor.now new.nor.now (R old.geometry) →
-      (nor.tells old.nor.now → OnOk r (D old.geometry (nor.bytes old.nor.now) (nor.bytes new.nor.now))) → Stepped failed old new r (acting R D)
-  acted {r = r} R D same wrote cause changes done = record {
+      (nor.tells old.nor.now → OnOk r (D old.geometry (nor.bytes old.nor.now) (nor.bytes new.nor.now))) →
+      (U old.geometry (nor.bytes old.nor.now) → nor.tells old.nor.now → old.counted ≡ true → OnOk r (new.counted ≡ true)) → Stepped failed old new r (acting U R D)
+  acted {new = new} {r = r} U R D same wrote cause changes done stands = record {
     framed = framed_wrote same wrote;
     cause = λ e. caused r e cause;
     means = fault_means r;
     cuts = wider changes (λ tells image cut need. cut);
     ends = λ tells need. ended r _ (done tells);
-    trims = wider changes (λ tells image here need. need image here);
+    upkeep = wider changes (λ tells image here need. need.1 image here);
+    worn = λ tells need. on_ok_weaker r (need.2 (nor.bytes new.nor.now)) (done tells);
+    stands = λ tells need stood. stands need.0 tells stood;
   }
     where
       caused : (r : Result (Unit {0}) Failed) {P : Type 0} → IsErrOf r failed.fault → OnErr r P → P
@@ -222,10 +259,11 @@ module _ {N : Type 0} {nor : NorOf N} where
       ended (Ok x) P h = h
       ended (Err why) P h = one_fault why
 
-  pub made : {old new : View N nor} {r : Result (Unit {0}) Failed} (R : Geometry → List ℕ → List ℕ → Type 0) (make : Geometry → List ℕ → List ℕ) → IsSameView old new → new.wrote ≡ true →
+  pub made : {old new : View N nor} {r : Result (Unit {0}) Failed} (U : Geometry → List ℕ → Type 0) (R : Geometry → List ℕ → List ℕ → Type 0) (make : Geometry → List ℕ → List ℕ) → IsSameView old new → new.wrote ≡ true →
       OnErr r (Rose (nor.faults old.nor.now) (nor.faults new.nor.now)) → Changes nor old.nor.now new.nor.now (R old.geometry) →
-      (nor.tells old.nor.now → OnOk r (nor.bytes new.nor.now ≡ make old.geometry (nor.bytes old.nor.now))) → Stepped failed old new r (making R make)
-  made R make = acted R (λ g was now. now ≡ make g was)
+      (nor.tells old.nor.now → OnOk r (nor.bytes new.nor.now ≡ make old.geometry (nor.bytes old.nor.now))) →
+      (U old.geometry (nor.bytes old.nor.now) → nor.tells old.nor.now → old.counted ≡ true → OnOk r (new.counted ≡ true)) → Stepped failed old new r (making U R make)
+  made U R make = acted U R (λ g was now. now ≡ make g was)
 
   -- the exit of a `?` on a fault of the device
   pub fails : {S T : Type 0} {old new : View N nor} {e : Failed} {r : Result T Failed} {first : Step S} {whole : Step T} → Stepped failed old new (Err e) first → IsErr r →

@@ -57,7 +57,8 @@ named_at (Some page) name = if is_name (name_of page) name then headed (Some pag
 
 -- the id of the first live header page that holds this name, whether the file is whole or damaged
 unfoldable pub first_named : Geometry → List ℕ → List ℕ → Option ℕ
-first_named g image name = option_and_then (λ p. named_at (live_at g image p) name) (find (λ p. is_some (named_at (live_at g image p) name)) (range_with_len 0 (page_count g)))
+first_named g image name =
+    option_and_then (λ p. named_at (live_at g image p) name) (find (λ p. is_some (named_at (live_at g image p) name)) (range_with_len 0 (page_count g)))
 
 -- the id of a page that is a live header page with this name, and its number
 abbrev pub named_page : Geometry → List ℕ → List ℕ → ℕ → Option (ℕ × ℕ)
@@ -65,7 +66,8 @@ named_page g image name p = option_map (λ id. (id, p)) (named_at (live_at g ima
 
 -- the same for the first such page from page `from` on and below page `to`
 unfoldable pub named_between : Geometry → List ℕ → List ℕ → (from to : ℕ) → Option (ℕ × ℕ)
-named_between g image name from to = option_and_then (named_page g image name) (find (λ p. is_some (named_at (live_at g image p) name)) (range_with_len from (to - from)))
+named_between g image name from to =
+    option_and_then (named_page g image name) (find (λ p. is_some (named_at (live_at g image p) name)) (range_with_len from (to - from)))
 
 -- the same for the first from page `near` on, and where there is none the first of all
 unfoldable pub named_near : Geometry → List ℕ → List ℕ → (near : ℕ) → Option (ℕ × ℕ)

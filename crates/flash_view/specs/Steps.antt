@@ -1,5 +1,5 @@
 -- What a call over a view that may change the device needs, and what it leaves.
-use Rattle.std.specs.Prelude.{◌≡◌, ◌≢◌, ℕ, List, true, false, Result, MatchResult, IsErrOf, IfErr}
+use Rattle.std.specs.Prelude.{◌≡◌, ◌≢◌, ℕ, List, true, false, Result, MatchResult, IsErrOf, IfErr, OnOk}
 use Rattle.geometry.specs.declared.geometry.Geometry.{Geometry}
 use Rattle.nor_core.specs.declared.device.Failed.{Failed}
 use Rattle.nor_core.specs.Count.{Rose}
@@ -10,7 +10,8 @@ use Rattle.table_model.specs.declared.error.FsErr.TheVariants.{DeviceFault as Fs
 use Rattle.flash_view.specs.declared.kinds.StepErr.{StepErr}
 use Rattle.flash_view.specs.declared.kinds.StepErr.TheVariants.{DeviceFault, Damaged}
 use Rattle.flash_view.specs.declared.view.View.{View}
-use Rattle.trim_laws.specs.Trim.{Trims}
+use Rattle.trim_laws.specs.Upkeep.{Upkeep}
+use Rattle.trim_laws.specs.Wear.{Worn}
 use Rattle.flash_view.specs.Same.{IsSameView}
 
 -- The errors of a call: the one that tells a fault of the device, and what each of them means.
@@ -55,9 +56,15 @@ pub record Stepped {N T E : Type 0} {nor : NorOf N} (errors : Errors E) (old new
   pub cause : IsErrOf result errors.fault → Rose (nor.faults old.nor.now) (nor.faults new.nor.now)
   pub means : IfErr result errors.means
   pub cuts : Changes nor old.nor.now new.nor.now (λ was image. step.needs old.geometry was → step.cut old.geometry was image)
-  pub ends : nor.tells old.nor.now → step.needs old.geometry (nor.bytes old.nor.now) → MatchResult result (step.done old.geometry (nor.bytes old.nor.now) (nor.bytes new.nor.now)) (λ why. why ≡ errors.fault)
-  -- where no header page named a page behind the last one of its file, none does, at a cut and after the call
-  pub trims : Changes nor old.nor.now new.nor.now (λ was image. step.needs old.geometry was → Trims old.geometry was image)
+  pub ends : nor.tells old.nor.now → step.needs old.geometry (nor.bytes old.nor.now) →
+      MatchResult result (step.done old.geometry (nor.bytes old.nor.now) (nor.bytes new.nor.now)) (λ why. why ≡ errors.fault)
+  -- where no header page named a page behind the last one of its file, none does, at a cut and after the call; and no erase count changes but
+  -- by making blocks fresh, each with the next count
+  pub upkeep : Changes nor old.nor.now new.nor.now (λ was image. step.needs old.geometry was → Upkeep old.geometry was image)
+  pub worn : nor.tells old.nor.now → step.needs old.geometry (nor.bytes old.nor.now) →
+      OnOk result (Worn old.geometry (nor.bytes old.nor.now) (nor.bytes new.nor.now))
+  -- where the table of block counts stood, it stands once the step is done
+  pub stands : nor.tells old.nor.now → step.needs old.geometry (nor.bytes old.nor.now) → old.counted ≡ true → OnOk result (new.counted ≡ true)
 
 -- A step begins another on image a where it needs no more, and its cuts are cuts of the other,
 pub record Begins {S T : Type 0} (g : Geometry) (a : List ℕ) (first : Step S) (whole : Step T) : Type 0 where
@@ -70,13 +77,22 @@ pub record Finishes {T : Type 0} (g : Geometry) (a b : List ℕ) (last whole : S
   pub cut : (c : List ℕ) → last.cut g b c → whole.cut g a c
   pub done : (c : List ℕ) (x : T) → last.done g b c x → whole.done g a c x
 
--- a step of programs alone, on an image of which all that R leaves trims header pages: what a cut leaves by R, and what they leave done,
-abbrev pub acting : (Geometry → List ℕ → List ℕ → Type 0) → (Geometry → List ℕ → List ℕ → Type 0) → Step (Unit {0})
-acting R D = record { needs = λ g was. (image : List ℕ) → R g was image → Trims g was image; cut = R; done = λ g was now ok. D g was now }
+-- a step of programs and erases, on an image that meets U, of which all that R leaves keeps up header pages and erase counts, and so does what is
+-- left done: what a cut leaves by R, and what they leave done,
+abbrev pub acting : (Geometry → List ℕ → Type 0) → (Geometry → List ℕ → List ℕ → Type 0) → (Geometry → List ℕ → List ℕ → Type 0) → Step (Unit {0})
+acting U R D = record {
+  needs = λ g was. U g was × ((image : List ℕ) → R g was image → Upkeep g was image) × ((image : List ℕ) → D g was image → Worn g was image);
+  cut = R;
+  done = λ g was now ok. D g was now;
+}
 
 -- where that is one image
-abbrev pub making : (Geometry → List ℕ → List ℕ → Type 0) → (Geometry → List ℕ → List ℕ) → Step (Unit {0})
-making R make = acting R (λ g was now. now ≡ make g was)
+abbrev pub making : (Geometry → List ℕ → Type 0) → (Geometry → List ℕ → List ℕ → Type 0) → (Geometry → List ℕ → List ℕ) → Step (Unit {0})
+making U R make = acting U R (λ g was now. now ≡ make g was)
+
+-- on any image
+abbrev pub any_image : Geometry → List ℕ → Type 0
+any_image g was = Unit {0}
 
 -- the same view, but for its bytes for work
 pub record IsRebuilt {N : Type 0} {nor : NorOf N} (old new : View N nor) : Type 0 where

@@ -111,7 +111,8 @@ impl<'b, N: Nor> View<'b, N> {
         ensures cause { OnErr result (Rose (N.faults self.old.nor.now) (N.faults self.new.nor.now)) }
         ensures looks { OnlyLooks self.old self.new }
         ensures work { self.new.work.now ≡ self.old.work.now }
-        ensures told { N.tells self.old.nor.now → entry ≡ entry_of self.old.geometry (N.bytes self.old.nor.now) page → IfOk result (λ sort. sort ≡ sort_of_page (live_at self.old.geometry (N.bytes self.old.nor.now) page)) }
+        ensures told { N.tells self.old.nor.now → entry ≡ entry_of self.old.geometry (N.bytes self.old.nor.now) page →
+            IfOk result (λ sort. sort ≡ sort_of_page (live_at self.old.geometry (N.bytes self.old.nor.now) page)) }
     {
         if entry == DELETED {
             return Ok(Sort::Deleted);
@@ -181,7 +182,8 @@ impl<'b, N: Nor> View<'b, N> {
     pub fn first_open(&self, kind: Kind) -> Option<u16>
         ensures when { is_some result ≡ self.now.counted }
         ensures stands { IfSome result (λ first. HasTable N.NorState self.now.geometry self.now.nor.now self.now.rows.now) }
-        ensures told { N.tells self.now.nor.now → IfSome result (λ first. IsFirst self.now.geometry.blocks (row_takes self.now.geometry self.now.rows.now kind) first) }
+        ensures told { N.tells self.now.nor.now →
+            IfSome result (λ first. IsFirst self.now.geometry.blocks (row_takes self.now.geometry self.now.rows.now kind) first) }
     {
         if !self.counted {
             return None;

@@ -44,7 +44,8 @@ impl<'b, N: Nor> View<'b, N> {
         requires span { span < 2 ^ 16 }
         ensures cause { OnErr result (Rose (N.faults self.old.nor.now) (N.faults self.new.nor.now)) }
         ensures looks { OnlyLooks self.old self.new }
-        ensures told { N.tells self.old.nor.now → IfOk result (λ page. page ≡ data_number self.old.geometry (own (live_at self.old.geometry (N.bytes self.old.nor.now)) id) (page_of self.old.geometry (N.bytes self.old.nor.now) header) span) }
+        ensures told { N.tells self.old.nor.now → IfOk result (λ page. page ≡ data_number self.old.geometry
+            (own (live_at self.old.geometry (N.bytes self.old.nor.now)) id) (page_of self.old.geometry (N.bytes self.old.nor.now) header) span) }
         ensures work { self.new.work.now ≡ self.old.work.now }
     {
         let g = self.geometry;
@@ -71,7 +72,8 @@ impl<'b, N: Nor> View<'b, N> {
         requires at { at + 2 ≤ self.old.geometry.page }
         ensures cause { OnErr result (Rose (N.faults self.old.nor.now) (N.faults self.new.nor.now)) }
         ensures looks { OnlyLooks self.old self.new }
-        ensures told { N.tells self.old.nor.now → IfOk result (λ page. page ≡ numbered (own (live_at self.old.geometry (N.bytes self.old.nor.now)) id) span (word_at (page_of self.old.geometry (N.bytes self.old.nor.now) index) at)) }
+        ensures told { N.tells self.old.nor.now → IfOk result (λ page. page ≡ numbered (own (live_at self.old.geometry (N.bytes self.old.nor.now)) id) span
+            (word_at (page_of self.old.geometry (N.bytes self.old.nor.now) index) at)) }
         ensures work { self.new.work.now ≡ self.old.work.now }
     {
         let page = self.word_in(index, at)?;
@@ -89,7 +91,8 @@ impl<'b, N: Nor> View<'b, N> {
         ensures cause { OnErr result (Rose (N.faults self.old.nor.now) (N.faults self.new.nor.now)) }
         ensures looks { OnlyLooks self.old self.new }
         ensures inside { IfOk result (λ holds. IsTrue holds → page < page_count self.old.geometry) }
-        ensures told { N.tells self.old.nor.now → IfOk result (λ holds. holds ≡ is_some (data_of (own (live_at self.old.geometry (N.bytes self.old.nor.now)) id page) span)) }
+        ensures told { N.tells self.old.nor.now →
+            IfOk result (λ holds. holds ≡ is_some (data_of (own (live_at self.old.geometry (N.bytes self.old.nor.now)) id page) span)) }
         ensures work { self.new.work.now ≡ self.old.work.now }
     {
         if u32::from(page) >= self.geometry.pages() {

@@ -162,7 +162,8 @@ impl<'b, N: Nor> View<'b, N> {
         ensures cause { OnErr result (Rose (N.faults self.old.nor.now) (N.faults self.new.nor.now)) }
         ensures looks { OnlyLooks self.old self.new }
         ensures inside { IfOk result (λ page. IfSome page (λ p. p < page_count self.old.geometry)) }
-        ensures told { N.tells self.old.nor.now → IsTidy self.old.geometry (N.bytes self.old.nor.now) → IfOk result (λ page. page ≡ index_page self.old.geometry (own (live_at self.old.geometry (N.bytes self.old.nor.now)) id) 0) }
+        ensures told { N.tells self.old.nor.now → IsTidy self.old.geometry (N.bytes self.old.nor.now) →
+            IfOk result (λ page. page ≡ index_page self.old.geometry (own (live_at self.old.geometry (N.bytes self.old.nor.now)) id) 0) }
         ensures kept { take (2 * self.old.geometry.page) self.new.work.now ≡ take (2 * self.old.geometry.page) self.old.work.now }
     {
         let hinted = self.hint(id);
@@ -185,7 +186,8 @@ impl<'b, N: Nor> View<'b, N> {
     pub fn seek_name(&mut self, name: &[u8]) -> Result<Option<u16>, Failed>
         ensures cause { OnErr result (Rose (N.faults self.old.nor.now) (N.faults self.new.nor.now)) }
         ensures looks { OnlyLooks self.old self.new }
-        ensures told { N.tells self.old.nor.now → IsTidy self.old.geometry (N.bytes self.old.nor.now) → IfOk result (λ id. id ≡ first_named self.old.geometry (N.bytes self.old.nor.now) name.now) }
+        ensures told { N.tells self.old.nor.now → IsTidy self.old.geometry (N.bytes self.old.nor.now) →
+            IfOk result (λ id. id ≡ first_named self.old.geometry (N.bytes self.old.nor.now) name.now) }
         ensures built { take self.old.geometry.page self.new.work.now ≡ take self.old.geometry.page self.old.work.now }
     {
         let near = self.name_near(name)?;

@@ -11,7 +11,8 @@ ghost use Rattle.image_model.specs.Tidy.{IsTidy};
 ghost use Rattle.flash_view.specs.Places.{IsEntryPage};
 ghost use Rattle.flash_view.specs.Same.{OnlyLooks};
 ghost use Rattle.flash_view.specs.DataPages.{lookup_entry as the_lookup_entry};
-ghost use Rattle.flash_view.specs.Found.{NextId, index_between, index_near, headed, lower as the_lower, is_name, named_at, first_named, named_between as the_named_between, named_near};
+ghost use Rattle.flash_view.specs.Found.{NextId, index_between, index_near, headed, lower as the_lower, is_name, named_at, first_named};
+ghost use Rattle.flash_view.specs.Found.{named_between as the_named_between, named_near};
 
 use crate::View;
 use crate::places::{block_of, is_entry_page};
@@ -78,7 +79,8 @@ impl<'b, N: Nor> View<'b, N> {
         requires { page < page_count self.old.geometry }
         ensures cause { OnErr result (Rose (N.faults self.old.nor.now) (N.faults self.new.nor.now)) }
         ensures looks { OnlyLooks self.old self.new }
-        ensures told { N.tells self.old.nor.now → IfOk result (λ head. head ≡ option_map header_at (live_at self.old.geometry (N.bytes self.old.nor.now) page)) }
+        ensures told { N.tells self.old.nor.now →
+            IfOk result (λ head. head ≡ option_map header_at (live_at self.old.geometry (N.bytes self.old.nor.now) page)) }
         ensures work { self.new.work.now ≡ self.old.work.now }
     {
         let g = self.geometry;
@@ -128,7 +130,8 @@ impl<'b, N: Nor> View<'b, N> {
         requires { page < page_count self.old.geometry }
         ensures cause { OnErr result (Rose (N.faults self.old.nor.now) (N.faults self.new.nor.now)) }
         ensures looks { OnlyLooks self.old self.new }
-        ensures told { N.tells self.old.nor.now → entry ≡ the_lookup_entry self.old.geometry (N.bytes self.old.nor.now) page → IfOk result (λ head. head ≡ option_map header_at (live_at self.old.geometry (N.bytes self.old.nor.now) page)) }
+        ensures told { N.tells self.old.nor.now → entry ≡ the_lookup_entry self.old.geometry (N.bytes self.old.nor.now) page →
+            IfOk result (λ head. head ≡ option_map header_at (live_at self.old.geometry (N.bytes self.old.nor.now) page)) }
         ensures work { self.new.work.now ≡ self.old.work.now }
     {
         let g = self.geometry;
@@ -144,7 +147,8 @@ impl<'b, N: Nor> View<'b, N> {
         ensures cause { OnErr result (Rose (N.faults self.old.nor.now) (N.faults self.new.nor.now)) }
         ensures looks { OnlyLooks self.old self.new }
         ensures inside { IfOk result (λ page. IfSome page (λ p. p < page_count self.old.geometry)) }
-        ensures told { N.tells self.old.nor.now → IfOk result (λ page. page ≡ index_page self.old.geometry (own (live_at self.old.geometry (N.bytes self.old.nor.now)) id) span) }
+        ensures told { N.tells self.old.nor.now →
+            IfOk result (λ page. page ≡ index_page self.old.geometry (own (live_at self.old.geometry (N.bytes self.old.nor.now)) id) span) }
         ensures work { self.new.work.now ≡ self.old.work.now }
     {
         self.find_span(id, u32::from(span))
@@ -156,7 +160,8 @@ impl<'b, N: Nor> View<'b, N> {
         ensures cause { OnErr result (Rose (N.faults self.old.nor.now) (N.faults self.new.nor.now)) }
         ensures looks { OnlyLooks self.old self.new }
         ensures inside { IfOk result (λ page. IfSome page (λ p. p < page_count self.old.geometry)) }
-        ensures told { N.tells self.old.nor.now → IfOk result (λ page. page ≡ index_page self.old.geometry (own (live_at self.old.geometry (N.bytes self.old.nor.now)) id) span) }
+        ensures told { N.tells self.old.nor.now →
+            IfOk result (λ page. page ≡ index_page self.old.geometry (own (live_at self.old.geometry (N.bytes self.old.nor.now)) id) span) }
         ensures work { self.new.work.now ≡ self.old.work.now }
     {
         let pages = self.geometry.pages();
@@ -170,8 +175,10 @@ impl<'b, N: Nor> View<'b, N> {
         ensures cause { OnErr result (Rose (N.faults self.old.nor.now) (N.faults self.new.nor.now)) }
         ensures looks { OnlyLooks self.old self.new }
         ensures inside { IfOk result (λ page. IfSome page (λ p. p < page_count self.old.geometry)) }
-        ensures any { N.tells self.old.nor.now → IfOk result (λ page. page ≡ index_near self.old.geometry (own (live_at self.old.geometry (N.bytes self.old.nor.now)) id) span near) }
-        ensures told { N.tells self.old.nor.now → IsTidy self.old.geometry (N.bytes self.old.nor.now) → IfOk result (λ page. page ≡ index_page self.old.geometry (own (live_at self.old.geometry (N.bytes self.old.nor.now)) id) span) }
+        ensures any { N.tells self.old.nor.now →
+            IfOk result (λ page. page ≡ index_near self.old.geometry (own (live_at self.old.geometry (N.bytes self.old.nor.now)) id) span near) }
+        ensures told { N.tells self.old.nor.now → IsTidy self.old.geometry (N.bytes self.old.nor.now) →
+            IfOk result (λ page. page ≡ index_page self.old.geometry (own (live_at self.old.geometry (N.bytes self.old.nor.now)) id) span) }
         ensures work { self.new.work.now ≡ self.old.work.now }
     {
         let pages = self.geometry.pages();
@@ -195,7 +202,8 @@ impl<'b, N: Nor> View<'b, N> {
         ensures cause { OnErr result (Rose (N.faults self.old.nor.now) (N.faults self.new.nor.now)) }
         ensures looks { OnlyLooks self.old self.new }
         ensures inside { IfOk result (λ page. IfSome page (λ p. p < page_count self.old.geometry)) }
-        ensures told { N.tells self.old.nor.now → to ≤ page_count self.old.geometry → IfOk result (λ page. page ≡ index_between (own (live_at self.old.geometry (N.bytes self.old.nor.now)) id) span from to) }
+        ensures told { N.tells self.old.nor.now → to ≤ page_count self.old.geometry →
+            IfOk result (λ page. page ≡ index_between (own (live_at self.old.geometry (N.bytes self.old.nor.now)) id) span from to) }
         ensures work { self.new.work.now ≡ self.old.work.now }
     {
         if id >= INDEX_BIT {
@@ -255,7 +263,8 @@ impl<'b, N: Nor> View<'b, N> {
         ensures looks { OnlyLooks self.old self.new }
         ensures inside { IfOk result (λ found. IfSome found (λ f. f.1 < page_count self.old.geometry)) }
         ensures any { N.tells self.old.nor.now → IfOk result (λ found. found ≡ named_near self.old.geometry (N.bytes self.old.nor.now) name.now near) }
-        ensures told { N.tells self.old.nor.now → IsTidy self.old.geometry (N.bytes self.old.nor.now) → IfOk result (λ found. option_map (λ f. f.0) found ≡ first_named self.old.geometry (N.bytes self.old.nor.now) name.now) }
+        ensures told { N.tells self.old.nor.now → IsTidy self.old.geometry (N.bytes self.old.nor.now) →
+            IfOk result (λ found. option_map (λ f. f.0) found ≡ first_named self.old.geometry (N.bytes self.old.nor.now) name.now) }
         ensures built { take self.old.geometry.page self.new.work.now ≡ take self.old.geometry.page self.old.work.now }
     {
         let pages = self.geometry.pages();
@@ -278,7 +287,8 @@ impl<'b, N: Nor> View<'b, N> {
         ensures cause { OnErr result (Rose (N.faults self.old.nor.now) (N.faults self.new.nor.now)) }
         ensures looks { OnlyLooks self.old self.new }
         ensures inside { IfOk result (λ found. IfSome found (λ f. f.1 < page_count self.old.geometry)) }
-        ensures told { N.tells self.old.nor.now → to ≤ page_count self.old.geometry → IfOk result (λ found. found ≡ the_named_between self.old.geometry (N.bytes self.old.nor.now) name.now from to) }
+        ensures told { N.tells self.old.nor.now → to ≤ page_count self.old.geometry →
+            IfOk result (λ found. found ≡ the_named_between self.old.geometry (N.bytes self.old.nor.now) name.now from to) }
         ensures built { take self.old.geometry.page self.new.work.now ≡ take self.old.geometry.page self.old.work.now }
     {
         let mut at = from;
@@ -330,7 +340,8 @@ impl<'b, N: Nor> View<'b, N> {
         requires { page < page_count self.old.geometry }
         ensures cause { OnErr result (Rose (N.faults self.old.nor.now) (N.faults self.new.nor.now)) }
         ensures looks { OnlyLooks self.old self.new }
-        ensures told { N.tells self.old.nor.now → IfOk result (λ has. has ≡ is_name (the_name_of (page_of self.old.geometry (N.bytes self.old.nor.now) page)) name.now) }
+        ensures told { N.tells self.old.nor.now →
+            IfOk result (λ has. has ≡ is_name (the_name_of (page_of self.old.geometry (N.bytes self.old.nor.now) page)) name.now) }
         ensures built { take self.old.geometry.page self.new.work.now ≡ take self.old.geometry.page self.old.work.now }
     {
         let f = self.bring(page)?;

@@ -240,8 +240,10 @@ fn settle_firsts(rows: &mut [u8], g: &Geometry, block: u16)
     requires room { rows_need g.now ≤ length rows.old }
     requires block { block < g.now.blocks }
     ensures size { length rows.new ≡ length rows.old }
-    ensures index { IsFirstBut g.now.blocks (row_takes g.now rows.old Index) block (first_in rows.old Index) → IsFirst g.now.blocks (row_takes g.now rows.new Index) (first_in rows.new Index) }
-    ensures pages { IsFirstBut g.now.blocks (row_takes g.now rows.old Data) block (first_in rows.old Data) → IsFirst g.now.blocks (row_takes g.now rows.new Data) (first_in rows.new Data) }
+    ensures index { IsFirstBut g.now.blocks (row_takes g.now rows.old Index) block (first_in rows.old Index) →
+        IsFirst g.now.blocks (row_takes g.now rows.new Index) (first_in rows.new Index) }
+    ensures pages { IsFirstBut g.now.blocks (row_takes g.now rows.old Data) block (first_in rows.old Data) →
+        IsFirst g.now.blocks (row_takes g.now rows.new Data) (first_in rows.new Data) }
     ensures sums { sums_in rows.new ≡ sums_in rows.old }
     ensures rows { (c : ℕ) → row_of rows.new c ≡ row_of rows.old c }
 {

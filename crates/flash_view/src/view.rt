@@ -77,7 +77,8 @@ impl<'b, N: Nor> View<'b, N> {
     ghost use Rattle.nor_core.specs.Device.{Changes, InErase, Writes};
     ghost use Rattle.geometry.specs.Numbers.{slots};
     ghost use Rattle.flash_view.specs.Places.{IsEntryPage, IsWordAt, page_start as the_page_start};
-    ghost use Rattle.image_model.specs.Places.{block_of as the_block_of, page_of, slot_of, entry_at, entry_of as the_entry_of, has_magic as the_magic, erase_count as the_erase_count};
+    ghost use Rattle.image_model.specs.Places.{block_of as the_block_of, page_of, slot_of, entry_at, entry_of as the_entry_of, has_magic as the_magic};
+    ghost use Rattle.image_model.specs.Places.{erase_count as the_erase_count};
     ghost use Rattle.image_model.specs.Tidy.{is_erased as the_erased};
     ghost use Rattle.page_layout.specs.Layout.{header_at};
     ghost use Rattle.page_cache.specs.Frames.{holds, held, frame_count, page_in};
@@ -211,7 +212,8 @@ impl<'b, N: Nor> View<'b, N> {
         ensures cause { OnErr result (Rose (N.faults self.old.nor.now) (N.faults self.new.nor.now)) }
         ensures looks { OnlyLooks self.old self.new }
         ensures entry { N.tells self.old.nor.now → IfOk result (λ seen. seen.0 ≡ the_entry_of self.old.geometry (N.bytes self.old.nor.now) page) }
-        ensures magic { N.tells self.old.nor.now → IfOk result (λ seen. seen.1 ≡ the_magic self.old.geometry (N.bytes self.old.nor.now) (the_block_of self.old.geometry page)) }
+        ensures magic { N.tells self.old.nor.now →
+            IfOk result (λ seen. seen.1 ≡ the_magic self.old.geometry (N.bytes self.old.nor.now) (the_block_of self.old.geometry page)) }
         ensures work { self.new.work.now ≡ self.old.work.now }
     {
         if self.counted {
@@ -257,7 +259,8 @@ impl<'b, N: Nor> View<'b, N> {
         requires inside { start + length into.old ≤ self.old.geometry.page }
         ensures cause { OnErr result (Rose (N.faults self.old.nor.now) (N.faults self.new.nor.now)) }
         ensures looks { OnlyLooks self.old self.new }
-        ensures told { N.tells self.old.nor.now → OnOk result (into.new ≡ slice_range (page_of self.old.geometry (N.bytes self.old.nor.now) page) start (start + length into.old)) }
+        ensures told { N.tells self.old.nor.now →
+            OnOk result (into.new ≡ slice_range (page_of self.old.geometry (N.bytes self.old.nor.now) page) start (start + length into.old)) }
         ensures work { self.new.work.now ≡ self.old.work.now }
         ensures small { (k : ℕ) → slice_index into.new k < 256 }
     {
@@ -343,7 +346,8 @@ impl<'b, N: Nor> View<'b, N> {
         requires { page < page_count self.old.geometry }
         ensures cause { OnErr result (Rose (N.faults self.old.nor.now) (N.faults self.new.nor.now)) }
         ensures looks { OnlyLooks self.old self.new }
-        ensures told { N.tells self.old.nor.now → OnOk result (take self.old.geometry.page self.new.work.now ≡ page_of self.old.geometry (N.bytes self.old.nor.now) page) }
+        ensures told { N.tells self.old.nor.now →
+            OnOk result (take self.old.geometry.page self.new.work.now ≡ page_of self.old.geometry (N.bytes self.old.nor.now) page) }
     {
         let g = self.geometry;
         let len = g.page() as usize;
@@ -356,7 +360,8 @@ impl<'b, N: Nor> View<'b, N> {
         requires { page < page_count self.old.geometry }
         ensures cause { OnErr result (Rose (N.faults self.old.nor.now) (N.faults self.new.nor.now)) }
         ensures looks { OnlyLooks self.old self.new }
-        ensures told { N.tells self.old.nor.now → OnOk result (slice_range self.new.work.now self.old.geometry.page (2 * self.old.geometry.page) ≡ page_of self.old.geometry (N.bytes self.old.nor.now) page) }
+        ensures told { N.tells self.old.nor.now → OnOk result
+            (slice_range self.new.work.now self.old.geometry.page (2 * self.old.geometry.page) ≡ page_of self.old.geometry (N.bytes self.old.nor.now) page) }
         ensures built { take self.old.geometry.page self.new.work.now ≡ take self.old.geometry.page self.old.work.now }
     {
         let g = self.geometry;
@@ -422,8 +427,10 @@ impl<'b, N: Nor> View<'b, N> {
         requires marked { ForSome mark (λ m. m.at + 2 ≤ self.old.geometry.phys) }
         ensures cause { OnErr result (Rose (N.faults self.old.nor.now) (N.faults self.new.nor.now)) }
         ensures writes { Writes N.NorState self.old.nor.now self.new.nor.now }
-        ensures done { N.tells self.old.nor.now → OnOk result (N.bytes self.new.nor.now ≡ erased (N.bytes self.old.nor.now) (unit_ix * self.old.geometry.phys) self.old.geometry.phys) }
-        ensures half { N.tells self.old.nor.now → OnErr result (HalfErased (unit_ix * self.old.geometry.phys) self.old.geometry.phys mark (N.bytes self.old.nor.now) (N.bytes self.new.nor.now)) }
+        ensures done { N.tells self.old.nor.now →
+            OnOk result (N.bytes self.new.nor.now ≡ erased (N.bytes self.old.nor.now) (unit_ix * self.old.geometry.phys) self.old.geometry.phys) }
+        ensures half { N.tells self.old.nor.now →
+            OnErr result (HalfErased (unit_ix * self.old.geometry.phys) self.old.geometry.phys mark (N.bytes self.old.nor.now) (N.bytes self.new.nor.now)) }
         ensures changes { Changes N.NorState self.old.nor.now self.new.nor.now (InErase N.NorState self.old.nor.now self.new.nor.now unit_ix mark) }
         ensures same { IsSameView self.old self.new }
         ensures wrote { self.new.wrote ≡ true }
@@ -443,8 +450,10 @@ impl<'b, N: Nor> View<'b, N> {
         requires start { start < self.old.geometry.page }
         ensures cause { OnErr result (Rose (N.faults self.old.nor.now) (N.faults self.new.nor.now)) }
         ensures writes { Writes N.NorState self.old.nor.now self.new.nor.now }
-        ensures changes { Changes N.NorState self.old.nor.now self.new.nor.now (HalfProgrammed (the_page_start self.old.geometry page + start) (slice_range self.old.work.now start self.old.geometry.page)) }
-        ensures done { N.tells self.old.nor.now → OnOk result (N.bytes self.new.nor.now ≡ programmed (N.bytes self.old.nor.now) (the_page_start self.old.geometry page + start) (slice_range self.old.work.now start self.old.geometry.page)) }
+        ensures changes { Changes N.NorState self.old.nor.now self.new.nor.now
+            (HalfProgrammed (the_page_start self.old.geometry page + start) (slice_range self.old.work.now start self.old.geometry.page)) }
+        ensures done { N.tells self.old.nor.now → OnOk result (N.bytes self.new.nor.now ≡ programmed (N.bytes self.old.nor.now)
+            (the_page_start self.old.geometry page + start) (slice_range self.old.work.now start self.old.geometry.page)) }
         ensures work { self.new.work.now ≡ self.old.work.now }
         ensures same { IsSameView self.old self.new }
         ensures wrote { self.new.wrote ≡ true }
@@ -467,7 +476,8 @@ impl<'b, N: Nor> View<'b, N> {
         ensures cause { OnErr result (Rose (N.faults self.old.nor.now) (N.faults self.new.nor.now)) }
         ensures writes { Writes N.NorState self.old.nor.now self.new.nor.now }
         ensures changes { Changes N.NorState self.old.nor.now self.new.nor.now (HalfProgrammed (the_page_start self.old.geometry page + start) from.now) }
-        ensures done { N.tells self.old.nor.now → OnOk result (N.bytes self.new.nor.now ≡ programmed (N.bytes self.old.nor.now) (the_page_start self.old.geometry page + start) from.now) }
+        ensures done { N.tells self.old.nor.now →
+            OnOk result (N.bytes self.new.nor.now ≡ programmed (N.bytes self.old.nor.now) (the_page_start self.old.geometry page + start) from.now) }
         ensures work { self.new.work.now ≡ self.old.work.now }
         ensures same { IsSameView self.old self.new }
         ensures wrote { self.new.wrote ≡ true }
@@ -484,7 +494,8 @@ impl<'b, N: Nor> View<'b, N> {
         ensures cause { OnErr result (Rose (N.faults self.old.nor.now) (N.faults self.new.nor.now)) }
         ensures writes { Writes N.NorState self.old.nor.now self.new.nor.now }
         ensures changes { Changes N.NorState self.old.nor.now self.new.nor.now (HalfProgrammed (entry_at self.old.geometry page) (to_le_bytes w16 entry)) }
-        ensures done { N.tells self.old.nor.now → OnOk result (N.bytes self.new.nor.now ≡ programmed (N.bytes self.old.nor.now) (entry_at self.old.geometry page) (to_le_bytes w16 entry)) }
+        ensures done { N.tells self.old.nor.now →
+            OnOk result (N.bytes self.new.nor.now ≡ programmed (N.bytes self.old.nor.now) (entry_at self.old.geometry page) (to_le_bytes w16 entry)) }
         ensures work { self.new.work.now ≡ self.old.work.now }
         ensures same { IsSameView self.old self.new }
         ensures wrote { self.new.wrote ≡ true }

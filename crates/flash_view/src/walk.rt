@@ -43,7 +43,8 @@ impl<'b, N: Nor> View<'b, N> {
         ensures looks { OnlyLooks self.old self.new }
         ensures once { N.device_reads self.new.nor.now ≤ N.device_reads self.old.nor.now + 1 }
         ensures inside { IfOk result (λ found. IfSome found (λ f. (at ≤ f.0) × (f.0 < entries self.old.geometry))) }
-        ensures told { N.tells self.old.nor.now → IfOk result (λ found. FirstSlot self.old.geometry (N.bytes self.old.nor.now) block at (min (entries self.old.geometry) ((k + 1) * (self.old.geometry.page / 2))) low high found) }
+        ensures told { N.tells self.old.nor.now → IfOk result (λ found. FirstSlot self.old.geometry (N.bytes self.old.nor.now) block at
+            (min (entries self.old.geometry) ((k + 1) * (self.old.geometry.page / 2))) low high found) }
         ensures work { self.new.work.now ≡ self.old.work.now }
     {
         let g = self.geometry;
@@ -141,7 +142,8 @@ impl<'b, N: Nor> View<'b, N> {
         ensures cause { OnErr result (Rose (N.faults self.old.nor.now) (N.faults self.new.nor.now)) }
         ensures looks { OnlyLooks self.old self.new }
         ensures held { IfOk result (λ head. IfSome head (λ h. holds self.new.geometry self.new.cache.now page ≡ true)) }
-        ensures told { N.tells self.old.nor.now → entry ≡ entry_of self.old.geometry (N.bytes self.old.nor.now) page → IfOk result (λ head. head ≡ option_map header_at (live_at self.old.geometry (N.bytes self.old.nor.now) page)) }
+        ensures told { N.tells self.old.nor.now → entry ≡ entry_of self.old.geometry (N.bytes self.old.nor.now) page →
+            IfOk result (λ head. head ≡ option_map header_at (live_at self.old.geometry (N.bytes self.old.nor.now) page)) }
         ensures work { self.new.work.now ≡ self.old.work.now }
     {
         let has = self.has_magic(block)?;
@@ -160,7 +162,9 @@ impl<'b, N: Nor> View<'b, N> {
         ensures cause { OnErr result (Rose (N.faults self.old.nor.now) (N.faults self.new.nor.now)) }
         ensures looks { OnlyLooks self.old self.new }
         ensures held { IfOk result (λ head. IfSome head (λ h. holds self.new.geometry self.new.cache.now page ≡ true)) }
-        ensures told { N.tells self.old.nor.now → has ≡ has_magic self.old.geometry (N.bytes self.old.nor.now) (the_block_of self.old.geometry page) → entry ≡ entry_of self.old.geometry (N.bytes self.old.nor.now) page → IfOk result (λ head. head ≡ option_map header_at (live_at self.old.geometry (N.bytes self.old.nor.now) page)) }
+        ensures told { N.tells self.old.nor.now → has ≡ has_magic self.old.geometry (N.bytes self.old.nor.now) (the_block_of self.old.geometry page) →
+            entry ≡ entry_of self.old.geometry (N.bytes self.old.nor.now) page →
+            IfOk result (λ head. head ≡ option_map header_at (live_at self.old.geometry (N.bytes self.old.nor.now) page)) }
         ensures work { self.new.work.now ≡ self.old.work.now }
     {
         if !has {

@@ -1,7 +1,8 @@
 // How many pages a table takes, and whether it has room.
 ghost use Rattle.std.specs.Prelude.{◌≡◌, ◌+◌, ◌≤◌, ◌<◌, ◌^◌, map, nat_le, IfOk};
 ghost use Rattle.geometry.specs.Numbers.{ceil, entries as the_entries};
-ghost use Rattle.table_model.specs.Room.{data_pages as the_data_pages, index_pages as the_index_pages, index_count as the_index_count, data_count as the_data_count, has_room as the_room};
+ghost use Rattle.table_model.specs.Room.{data_pages as the_data_pages, index_pages as the_index_pages, index_count as the_index_count};
+ghost use Rattle.table_model.specs.Room.{data_count as the_data_count, has_room as the_room};
 ghost use Rattle.flat_plain.specs.Seen.{file};
 
 use crate::PlainFile;
@@ -86,7 +87,8 @@ pub(crate) fn has_room(g: &Geometry, files: &[PlainFile]) -> Result<bool, AllocE
 // Whether a table has room for one index page more.
 #[tactic(auto, using(geometry::proofs::Bounds::entry_left))]
 pub(crate) fn has_index_room(g: &Geometry, files: &[PlainFile]) -> Result<bool, AllocError>
-    ensures { IfOk result (λ room. room ≡ nat_le (ceil (the_index_count g.now (map file files.now) + 1) (the_entries g.now) + ceil (the_data_count g.now (map file files.now)) (the_entries g.now) + 2) g.now.blocks) }
+    ensures { IfOk result (λ room. room ≡ nat_le (ceil (the_index_count g.now (map file files.now) + 1) (the_entries g.now)
+        + ceil (the_data_count g.now (map file files.now)) (the_entries g.now) + 2) g.now.blocks) }
 {
     let entries = u64::from(g.entries());
     let index = (index_count(g, files)? + 1 + entries - 1) / entries;

@@ -4,7 +4,8 @@ ghost use Rattle.table_model.specs.Room.{index_count, data_count};
 ghost use Rattle.table_model.specs.Ask.{asked};
 ghost use Rattle.table_model.specs.Flat.{answer as the_answer};
 ghost use Rattle.table_model.specs.Steps.{steps as the_steps};
-ghost use Rattle.table_model.specs.Window.{settled_at, leaves_window as the_leaves, goes_on as the_goes_on, begins as the_begins, moved as the_moved, after as the_moment_after, from_settled, IsAmong};
+ghost use Rattle.table_model.specs.Window.{settled_at, leaves_window as the_leaves, goes_on as the_goes_on, begins as the_begins, moved as the_moved};
+ghost use Rattle.table_model.specs.Window.{after as the_moment_after, from_settled, IsAmong};
 ghost use Rattle.flat_plain.specs.Seen.{file, files_of, said, state_of};
 ghost use Rattle.flat_plain.specs.Moments.{coming, geometry_of, moment_of, window_of};
 
@@ -104,7 +105,9 @@ impl PlainMoment {
     /// Whether the table has room for an index page: its pages and one index page more, each kind in blocks of its own, leave two blocks free. A
     /// call that cuts a file needs one. Wants memory never; more pages than are counted are told so.
     pub fn has_index_room(&self) -> Result<bool, AllocError>
-        ensures { IfOk result (λ room. room ≡ nat_le (ceil (index_count (geometry_of self.now) (moment_of self.now).state.table + 1) (entries (geometry_of self.now)) + ceil (data_count (geometry_of self.now) (moment_of self.now).state.table) (entries (geometry_of self.now)) + 2) (geometry_of self.now).blocks) }
+        ensures { IfOk result
+            (λ room. room ≡ nat_le (ceil (index_count (geometry_of self.now) (moment_of self.now).state.table + 1) (entries (geometry_of self.now))
+            + ceil (data_count (geometry_of self.now) (moment_of self.now).state.table) (entries (geometry_of self.now)) + 2) (geometry_of self.now).blocks) }
     {
         has_index_room(&self.flat.geometry, self.flat.files())
     }
@@ -169,7 +172,8 @@ impl PlainMoment {
         flat: Flat,
         steps: &[Vec<PlainFile>],
     ) -> Result<PlainMoment, AllocError>
-        ensures moment { IfOk result (λ m. moment_of m ≡ the_moved (geometry_of self.now) (moment_of self.now) (asked call.now) (record { answer = said answer.now; next = state_of flat }) (map files_of steps.now)) }
+        ensures moment { IfOk result (λ m. moment_of m ≡ the_moved (geometry_of self.now) (moment_of self.now) (asked call.now)
+            (record { answer = said answer.now; next = state_of flat }) (map files_of steps.now)) }
         ensures geometry { IfOk result (λ m. geometry_of m ≡ flat.geometry) }
     {
         if leaves_window(call) {

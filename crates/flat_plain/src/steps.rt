@@ -4,7 +4,8 @@ ghost use Rattle.table_model.specs.Ask.{asked};
 ghost use Rattle.table_model.specs.Table.{file_named};
 ghost use Rattle.table_model.specs.Descriptors.{open_at as the_open_at};
 ghost use Rattle.table_model.specs.Opening.{open_changes as the_open_changes};
-ghost use Rattle.table_model.specs.Steps.{is_refusal as the_refusal, cuts_file as the_cuts, one_if as the_one_if, open_file as the_open_file, size_or_zero, write_steps as the_write_steps, done_steps as the_done_steps};
+ghost use Rattle.table_model.specs.Steps.{is_refusal as the_refusal, cuts_file as the_cuts, one_if as the_one_if, open_file as the_open_file, size_or_zero};
+ghost use Rattle.table_model.specs.Steps.{write_steps as the_write_steps, done_steps as the_done_steps};
 ghost use Rattle.flat_plain.specs.Seen.{file, files_of, said, state_of};
 
 use crate::changes::place;
@@ -135,7 +136,8 @@ impl Flat {
         answer: &Said,
         next: &[PlainFile],
     ) -> Result<Vec<Vec<PlainFile>>, AllocError>
-        ensures { IfOk result (λ steps. map files_of steps.items ≡ (if the_refusal (said answer.now) then [] else the_done_steps self.now.geometry (state_of self.now) (asked call.now) (map file next.now))) }
+        ensures { IfOk result (λ steps. map files_of steps.items
+            ≡ (if the_refusal (said answer.now) then [] else the_done_steps self.now.geometry (state_of self.now) (asked call.now) (map file next.now))) }
     {
         if is_refusal(answer) {
             Ok(Vec::new(self.alloc))

@@ -1,7 +1,8 @@
 // The write window: bytes of the last writes that wait, all inside one data page.
 ghost use Rattle.std.specs.Prelude.{◌≡◌, ◌<◌, ◌^◌, IfOk};
 ghost use Rattle.table_model.specs.Ask.{asked};
-ghost use Rattle.table_model.specs.Window.{page_end as the_page_end, incoming_at as the_incoming_at, incoming_of as the_incoming_of, continues as the_continues, may_wait as the_may_wait, extended as the_extended, begun as the_begun};
+ghost use Rattle.table_model.specs.Window.{page_end as the_page_end, incoming_at as the_incoming_at, incoming_of as the_incoming_of};
+ghost use Rattle.table_model.specs.Window.{continues as the_continues, may_wait as the_may_wait, extended as the_extended, begun as the_begun};
 ghost use Rattle.flat_plain.specs.Seen.{state_of};
 ghost use Rattle.flat_plain.specs.Moments.{window_of, coming};
 

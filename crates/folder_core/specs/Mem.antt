@@ -24,5 +24,6 @@ few_entries files few = subst (λ (n : ℕ). n < 2 ^ 32) (sym (same_many files))
 
 -- a piece was put into the first of them that has that name, or into a new one
 pub record MemPuts (first : Bool) (name piece : List ℕ) (old new : List MemFile) : Type 0 where
-  pub entries : ((i : ℕ) × EntryAt first name (length piece) i (entries_of (files_of old)) (entries_of (files_of new))) ⊎ EntryLast name (length piece) (entries_of (files_of old)) (entries_of (files_of new))
+  pub entries : ((i : ℕ) × EntryAt first name (length piece) i (entries_of (files_of old)) (entries_of (files_of new)))
+      ⊎ EntryLast name (length piece) (entries_of (files_of old)) (entries_of (files_of new))
   pub files : ((i : ℕ) × FileAt first name piece i (files_of old) (files_of new)) ⊎ FileLast name piece (files_of old) (files_of new)

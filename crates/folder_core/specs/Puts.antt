@@ -35,8 +35,10 @@ pub record FileLast (name piece : List ℕ) (old new : List File) : Type 0 where
 pub record Puts {D : Type 0} (folder : FolderOf D) (first : Bool) (name piece : List ℕ) (old new : D) : Type 0 where
   pub told : folder.tells old → folder.tells new
   pub told_before : folder.tells new → folder.tells old
-  pub entries : ((i : ℕ) × EntryAt first name (length piece) i (folder.entries old) (folder.entries new)) ⊎ EntryLast name (length piece) (folder.entries old) (folder.entries new)
-  pub files : folder.tells old → ((i : ℕ) × FileAt first name piece i (folder.files old) (folder.files new)) ⊎ FileLast name piece (folder.files old) (folder.files new)
+  pub entries : ((i : ℕ) × EntryAt first name (length piece) i (folder.entries old) (folder.entries new))
+      ⊎ EntryLast name (length piece) (folder.entries old) (folder.entries new)
+  pub files : folder.tells old →
+      ((i : ℕ) × FileAt first name piece i (folder.files old) (folder.files new)) ⊎ FileLast name piece (folder.files old) (folder.files new)
   pub faults : folder.faults old ≤ folder.faults new
 
 -- nothing was done, or a front of the piece was put

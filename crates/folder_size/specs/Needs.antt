@@ -30,7 +30,8 @@ usable_refusal usable blocks =
 
 -- why so many blocks of a shape make no volume that can be written, if they make none
 unfoldable pub written_refusal : Shape → (blocks : ℕ) → Option GeoErr
-written_refusal shape blocks = option_or (refusal shape.page shape.block blocks shape.phys shape.meta) (usable_refusal (blocks * entries_in shape.page shape.block) blocks)
+written_refusal shape blocks =
+    option_or (refusal shape.page shape.block blocks shape.phys shape.meta) (usable_refusal (blocks * entries_in shape.page shape.block) blocks)
 
 -- `n` blocks are the least: they make a volume that can be written; with so many or more an image is made of the files, and with fewer it is
 -- refused for want of room.

@@ -28,7 +28,8 @@ pub record Counting (g : Geometry) (image : List ℕ) (first n i block : ℕ) (c
   pub index : c.index_live + length (filter (λ p. is_index_page (live_at g image p)) (range_with_len (first + i) (n - i))) ≡ index_in g image block
   pub pages : c.data_live + length (filter (λ p. is_data_page (live_at g image p)) (range_with_len (first + i) (n - i))) ≡ data_in g image block
   pub deleted : c.deleted + length (filter (λ p. is_deleted_entry g image p) (range_with_len (first + i) (n - i))) ≡ deleted_in g image block
-  pub free : c.free + length (filter (λ p. entry_of g image p == 0xFFFF) (range_with_len (first + i) (n - i))) ≡ length (filter (λ p. entry_of g image p == 0xFFFF) (range_with_len first n))
+  pub free : c.free + length (filter (λ p. entry_of g image p == 0xFFFF) (range_with_len (first + i) (n - i)))
+      ≡ length (filter (λ p. entry_of g image p == 0xFFFF) (range_with_len first n))
   pub erases : c.erases ≡ erase_count g image block
 
 -- entries that were counted are numbers of two bytes

@@ -1,5 +1,6 @@
 -- Free pages of an image: which page takes the next one of a kind, and when there is none.
-use Rattle.std.specs.Prelude.{◌≡◌, ◌≢◌, ◌⊎◌, ℕ, ◌+◌, ◌*◌, ◌<◌, ◌≤◌, ◌==◌, ◌&&◌, nat_lt, nat_le, not, List, Bool, true, false, Option, Some, None, is_some, option_and_then, filter, find, if◌then◌else◌}
+use Rattle.std.specs.Prelude.{◌≡◌, ◌≢◌, ◌⊎◌, ℕ, ◌+◌, ◌*◌, ◌<◌, ◌≤◌, ◌==◌, ◌&&◌, nat_lt, nat_le, not, List, Bool, true, false, Option, Some, None, is_some}
+use Rattle.std.specs.Prelude.{option_and_then, filter, find, if◌then◌else◌}
 use Rattle.std.specs.Option.{option_or}
 use Rattle.std.specs.List.{range_with_len, list_all}
 use Rattle.geometry.specs.declared.geometry.Geometry.{Geometry}

@@ -20,11 +20,13 @@ pub record IsClear (g : Geometry) (image : List ℕ) : Type 0 where
 
 -- An image that is tidy but for live pages is clear.
 abbrev pub TidyButIsClear : Geometry → Type 0
-TidyButIsClear g = (image : List ℕ) (beside : ℕ → Bool) → IsTidyBut g image beside → ((r : ℕ) → beside r ≡ true → is_some (live_at g image r) ≡ true) → IsClear g image
+TidyButIsClear g = (image : List ℕ) (beside : ℕ → Bool) → IsTidyBut g image beside →
+    ((r : ℕ) → beside r ≡ true → is_some (live_at g image r) ≡ true) → IsClear g image
 
 -- Where pages are had fewer are had.
 abbrev pub LessHad : Geometry → Type 0
-LessHad g = (image : List ℕ) (index pages index' pages' : ℕ) → index' ≤ index → pages' ≤ pages → are_had g image index pages ≡ true → are_had g image index' pages' ≡ true
+LessHad g = (image : List ℕ) (index pages index' pages' : ℕ) → index' ≤ index → pages' ≤ pages → are_had g image index pages ≡ true →
+    are_had g image index' pages' ≡ true
 
 -- A page that was found is put, and all others that were had are had still.
 abbrev pub PutHad : Geometry → Type 0
@@ -34,9 +36,11 @@ PutHad g = (a b : List ℕ) (p : ℕ) (page : List ℕ) (index pages : ℕ) → 
 
 -- Where each entry counts as before the same pages are had.
 abbrev pub SameHad : Geometry → Type 0
-SameHad g = (a b : List ℕ) (index pages : ℕ) → IsClear g a → IsClear g b → ((p : ℕ) → is_entry_page g p ≡ true → sort_at g b p ≡ sort_at g a p) → are_had g a index pages ≡ true → are_had g b index pages ≡ true
+SameHad g = (a b : List ℕ) (index pages : ℕ) → IsClear g a → IsClear g b → ((p : ℕ) → is_entry_page g p ≡ true → sort_at g b p ≡ sort_at g a p) →
+    are_had g a index pages ≡ true → are_had g b index pages ≡ true
 
 -- They are had where a live page changes in place and stays of its kind.
 abbrev pub InPlaceHad : Geometry → Type 0
-InPlaceHad g = (a b : List ℕ) (w : ℕ) (x y : List ℕ) (index pages : ℕ) → IsClear g a → IsClear g b → SameOutside (w * g.page) g.page a b → live_at g a w ≡ Some x → live_at g b w ≡ Some y → names_index y ≡ names_index x →
+InPlaceHad g = (a b : List ℕ) (w : ℕ) (x y : List ℕ) (index pages : ℕ) → IsClear g a → IsClear g b → SameOutside (w * g.page) g.page a b →
+    live_at g a w ≡ Some x → live_at g b w ≡ Some y → names_index y ≡ names_index x →
     are_had g a index pages ≡ true → are_had g b index pages ≡ true

@@ -37,7 +37,8 @@ fn entry_sort<N: Nor>(v: &mut View<'_, N>, has: bool, page: u16, entry: u16) -> 
     requires { IsEntryPage v.old.geometry page }
     ensures cause { OnErr result (Rose (N.faults v.old.nor.now) (N.faults v.new.nor.now)) }
     ensures looks { OnlyLooks v.old v.new }
-    ensures told { N.tells v.old.nor.now → has ≡ the_magic v.old.geometry (N.bytes v.old.nor.now) (block_of v.old.geometry page) → entry ≡ entry_of v.old.geometry (N.bytes v.old.nor.now) page → IfOk result (λ sort. sort ≡ sort_at v.old.geometry (N.bytes v.old.nor.now) page) }
+    ensures told { N.tells v.old.nor.now → has ≡ the_magic v.old.geometry (N.bytes v.old.nor.now) (block_of v.old.geometry page) →
+        entry ≡ entry_of v.old.geometry (N.bytes v.old.nor.now) page → IfOk result (λ sort. sort ≡ sort_at v.old.geometry (N.bytes v.old.nor.now) page) }
 {
     if entry == FREE {
         return Ok(Sort::Free);
@@ -65,7 +66,8 @@ fn count_slots<N: Nor>(
     requires block { block < v.old.geometry.blocks }
     requires few { start + length bytes.now / 2 ≤ entries v.old.geometry }
     requires total { total_of counted ≤ start }
-    ensures looks { Looks v.old v.new result (λ g image counts. has ≡ the_magic g image block → HasSlots g image bytes.now block start (length bytes.now / 2) → IsCountedTo g image block start counted → IsCountedTo g image block (start + length bytes.now / 2) counts) }
+    ensures looks { Looks v.old v.new result (λ g image counts. has ≡ the_magic g image block → HasSlots g image bytes.now block start (length bytes.now / 2) →
+        IsCountedTo g image block start counted → IsCountedTo g image block (start + length bytes.now / 2) counts) }
     ensures total { IfOk result (λ counts. total_of counts ≤ start + length bytes.now / 2) }
 {
     let mut counts = counted;
@@ -99,7 +101,8 @@ fn count_part<N: Nor>(
     requires some { 0 < count }
     requires part { count ≤ 128 }
     requires total { total_of counted ≤ start }
-    ensures looks { Looks v.old v.new result (λ g image counts. has ≡ the_magic g image block → IsCountedTo g image block start counted → IsCountedTo g image block (start + count) counts) }
+    ensures looks { Looks v.old v.new result
+        (λ g image counts. has ≡ the_magic g image block → IsCountedTo g image block start counted → IsCountedTo g image block (start + count) counts) }
     ensures total { IfOk result (λ counts. total_of counts ≤ start + count) }
 {
     let g = v.geometry;

@@ -30,7 +30,8 @@ fn note_page<N: Nor>(
     name: &[u8],
 ) -> Result<bool, Failed>
     requires { IsEntryPage v.old.geometry page }
-    ensures looks { Looks v.old v.new result (λ g image x. IsIndexEntry g image page entry → Scanned g image (bits_at g v.old.work.now) name.now page → ScannedTo g image (bits_at g v.new.work.now) name.now (page + 1) x) }
+    ensures looks { Looks v.old v.new result (λ g image x. IsIndexEntry g image page entry → Scanned g image (bits_at g v.old.work.now) name.now page →
+        ScannedTo g image (bits_at g v.new.work.now) name.now (page + 1) x) }
 {
     v.hold(page)?;
     let head = header_of(v.held(page));
@@ -58,7 +59,9 @@ fn scan_slots<N: Nor>(
 ) -> Result<bool, Failed>
     requires block { block < v.old.geometry.blocks }
     requires few { start + length bytes.now / 2 ≤ entries v.old.geometry }
-    ensures looks { Looks v.old v.new result (λ g image x. AreSlots g image bytes.now block start (length bytes.now / 2) → Scanned g image (bits_at g v.old.work.now) name.now (first_entry g block + start) → ScannedTo g image (bits_at g v.new.work.now) name.now (first_entry g block + start + length bytes.now / 2) x) }
+    ensures looks { Looks v.old v.new result (λ g image x. AreSlots g image bytes.now block start (length bytes.now / 2) →
+        Scanned g image (bits_at g v.old.work.now) name.now (first_entry g block + start) →
+        ScannedTo g image (bits_at g v.new.work.now) name.now (first_entry g block + start + length bytes.now / 2) x) }
 {
     let to = bytes.len() / 2;
     let mut from = 0;
@@ -92,7 +95,8 @@ fn scan_part<N: Nor>(
     requires few { start + count ≤ entries v.old.geometry }
     requires some { 0 < count }
     requires part { count ≤ 128 }
-    ensures looks { Looks v.old v.new result (λ g image x. the_magic g image block ≡ true → Scanned g image (bits_at g v.old.work.now) name.now (first_entry g block + start) → ScannedTo g image (bits_at g v.new.work.now) name.now (first_entry g block + start + count) x) }
+    ensures looks { Looks v.old v.new result (λ g image x. the_magic g image block ≡ true → Scanned g image (bits_at g v.old.work.now) name.now
+        (first_entry g block + start) → ScannedTo g image (bits_at g v.new.work.now) name.now (first_entry g block + start + count) x) }
 {
     let g = v.geometry;
     let page = (u32::from(block) * g.per_block() + k) as u16;
@@ -119,7 +123,8 @@ fn lacks_index<N: Nor>(v: &mut View<'_, N>, block: u16) -> Result<bool, Failed>
 #[tactic(auto, using(flash_view::proofs::Looking::looks_then))]
 fn scan_block<N: Nor>(v: &mut View<'_, N>, block: u16, name: &[u8]) -> Result<bool, Failed>
     requires { block < v.old.geometry.blocks }
-    ensures looks { Looks v.old v.new result (λ g image x. Scanned g image (bits_at g v.old.work.now) name.now (block * per_block g) → ScannedTo g image (bits_at g v.new.work.now) name.now ((block + 1) * per_block g) x) }
+    ensures looks { Looks v.old v.new result (λ g image x. Scanned g image (bits_at g v.old.work.now) name.now (block * per_block g) →
+        ScannedTo g image (bits_at g v.new.work.now) name.now ((block + 1) * per_block g) x) }
 {
     let g = v.geometry;
     let slots = g.page() / 2;

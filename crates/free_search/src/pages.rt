@@ -11,7 +11,8 @@ ghost use Rattle.geometry.specs.declared.geometry.Geometry.{Geometry};
 ghost use Rattle.free_search.specs.Had.{TidyButIsClear, LessHad, PutHad, SameHad, InPlaceHad};
 ghost use Rattle.image_model.specs.Places.{entry_at};
 ghost use Rattle.flash_view.specs.Places.{IsWordAt};
-ghost use Rattle.free_search.specs.Free.{FreePage, is_open_for, the_open_block, the_least_worn, the_block, the_first_free, the_free_page, worn_with, worn_by_row, IndexPageHad, DataPageHad};
+ghost use Rattle.free_search.specs.Free.{FreePage, is_open_for, the_open_block, the_least_worn, the_block, the_first_free, the_free_page, worn_with};
+ghost use Rattle.free_search.specs.Free.{worn_by_row, IndexPageHad, DataPageHad};
 
 use crate::erases::erases;
 use crate::{counts, free_blocks, is_free_block};
@@ -151,7 +152,8 @@ fn is_unworn(least: Option<Worn>) -> bool
 fn least_by_rows(rows: &[u8], entries: u32, blocks: u16, not_in: Option<u16>) -> Option<u16>
     requires { 16 * blocks ≤ length rows.now }
     ensures below { IfSome result (λ block. block < blocks) }
-    ensures told { (g : Geometry) (image : List ℕ) → IsTable g image rows.now → entries ≡ the_entries g → blocks ≡ g.blocks → result ≡ the_least_worn g image not_in }
+    ensures told { (g : Geometry) (image : List ℕ) → IsTable g image rows.now → entries ≡ the_entries g → blocks ≡ g.blocks →
+        result ≡ the_least_worn g image not_in }
 {
     let mut least = None;
     for block in 0..blocks {
@@ -230,7 +232,8 @@ pub fn free_page<N: Nor>(
     ensures looks { Looks v.old v.new result (λ g image found. TellsFree g image → FreePage g image kind keep not_in found) }
     ensures few_reads { v.old.counted ≡ true → N.device_reads v.new.nor.now ≤ N.device_reads v.old.nor.now + lookups v.old.geometry + 1 }
     ensures entry { IfOk result (λ page. IfSome page (λ p. IsEntryPage v.old.geometry p)) }
-    ensures chosen { N.tells v.old.nor.now → TellsFree v.old.geometry (N.bytes v.old.nor.now) → IfOk result (λ found. found ≡ the_free_page v.old.geometry (N.bytes v.old.nor.now) kind keep not_in) }
+    ensures chosen { N.tells v.old.nor.now → TellsFree v.old.geometry (N.bytes v.old.nor.now) →
+        IfOk result (λ found. found ≡ the_free_page v.old.geometry (N.bytes v.old.nor.now) kind keep not_in) }
 {
     match block_for(v, kind, keep, not_in)? {
         Some(block) => first_free(v, block),

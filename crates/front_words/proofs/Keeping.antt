@@ -1,5 +1,5 @@
 -- The numbers that a line gives are those of its volume.
-use Rattle.std.proofs.Common.{◌≡◌, ℕ, ◌-◌, ◌*◌, ◌/◌, ◌%◌, ◌<◌, List, [], ◌∷◌, Bool, true, false, cond, eqb, leb, refl, sym, ap, ◌∙◌, arith, ⊎_elim, subst, Option, Some, None, Result, Ok, Err}
+use Rattle.std.proofs.Common.{◌≡◌, ℕ, ◌-◌, ◌*◌, ◌/◌, ◌%◌, ◌<◌, ◌≤◌, List, [], ◌∷◌, Bool, true, false, cond, eqb, leb, refl, sym, ap, ◌∙◌, arith, ⊎_elim, subst, Option, Some, None, Result, Ok, Err}
 use Rattle.std.specs.Prelude.{filter, unwrap_or, option_map, is_none, not, ◌&&◌, ◌||◌}
 use Rattle.std.proofs.lemmas.Bool.{false≢true, cases_Bool}
 use Rattle.std.proofs.lemmas.Grind.{common_steps}
@@ -9,9 +9,9 @@ use Rattle.front_words.specs.declared.asked.Asked.{Asked}
 use Rattle.front_words.specs.declared.settling.Candidate.{Candidate}
 use Rattle.front_words.specs.declared.settling.Volume.{Volume}
 use Rattle.front_words.specs.declared.settling.Unsettled.{Unsettled}
-use Rattle.front_words.specs.declared.settling.Unsettled.TheVariants.{NoSize, Uneven, Several, AnyMeta}
+use Rattle.front_words.specs.declared.settling.Unsettled.TheVariants.{NoSize, Uneven, Several, AnyMeta, TooFar}
 use Rattle.front_words.specs.Asking.{changes}
-use Rattle.front_words.specs.Settling.{first_of, preset_of, known_page, known_block, known_meta, known_magic, start_of, bytes_of, sized, fits, same_magic, fits_magic, agrees, found_volume, with_meta, as_good, chosen, agreeing, settled_by, settled, needs_found, IsAsGiven, KeepsNumbers, meta_by}
+use Rattle.front_words.specs.Settling.{first_of, preset_of, known_page, known_block, known_meta, known_magic, start_of, bytes_of, sized, fits, same_magic, fits_magic, agrees, found_volume, with_meta, as_good, chosen, agreeing, settled_by, end_of, reached, settled, needs_found, IsAsGiven, KeepsNumbers, meta_by}
 
 both : (a b : Bool) → (a && b) ≡ true → (a ≡ true) × (b ≡ true)
 both true true h = (refl, refl)
@@ -140,9 +140,28 @@ all_keep asked length found v (Some page) (Some block) None magic p b m k h = ch
 all_keep asked length found v (Some page) None meta magic p b m k h = chosen_keeps asked (agreeing asked found) v (filter_first (agrees asked) found) h
 all_keep asked length found v None block meta magic p b m k h = chosen_keeps asked (agreeing asked found) v (filter_first (agrees asked) found) h
 
+-- what is reached was settled, and ends in reach
+reached_is : (r : Result Volume Unsettled) (v : Volume) → reached r ≡ Ok v → (r ≡ Ok v) × (end_of v ≤ 4294967295)
+reached_is (Err why) v h = cc
+reached_is (Ok u) v h = let is = go (leb (end_of u) 4294967295) refl h in (ap (λ (w : Volume). Ok w) is.0, is.1)
+  where
+    go : (b : Bool) → leb (end_of u) 4294967295 ≡ b → cond b (Ok u) (Err (TooFar u.at (end_of u))) ≡ Ok v → (u ≡ v) × (end_of v ≤ 4294967295)
+    go false e h = cc
+    go true e h =
+        let same : u ≡ v = cc in
+        let low : end_of u ≤ 4294967295 = grind (arith, common_steps) in
+        (same, subst (λ (w : Volume). end_of w ≤ 4294967295) same low)
+
 pub settled_keeps : (asked : Asked) (length : ℕ) (found : List Candidate) (v : Volume) → settled asked length found ≡ Ok v → KeepsNumbers asked v
 unfolding settled
-settled_keeps asked length found v h = all_keep asked length found v (known_page asked) (known_block asked) (known_meta asked) (known_magic asked) refl refl refl refl h
+settled_keeps asked length found v h =
+    let is = reached_is (settled_by asked length found (known_page asked) (known_block asked) (known_meta asked) (known_magic asked)) v h in
+    all_keep asked length found v (known_page asked) (known_block asked) (known_meta asked) (known_magic asked) refl refl refl refl is.0
+
+pub settled_reached : (asked : Asked) (length : ℕ) (found : List Candidate) (v : Volume) → settled asked length found ≡ Ok v → end_of v ≤ 4294967295
+unfolding settled
+settled_reached asked length found v h =
+    let is = reached_is (settled_by asked length found (known_page asked) (known_block asked) (known_meta asked) (known_magic asked)) v h in is.1
 
 -- where all numbers are known the volumes that were found are not asked
 none_asked : (asked : Asked) (length : ℕ) (found other : List Candidate) (page block meta : Option ℕ) (magic : Option MagicKind) → (is_none page || (is_none block || (is_none meta || is_none magic))) ≡ false → settled_by asked length found page block meta magic ≡ settled_by asked length other page block meta magic
@@ -154,4 +173,5 @@ none_asked asked length found other None block meta magic h = cc
 
 pub settled_alone : (asked : Asked) (length : ℕ) (found other : List Candidate) → needs_found asked ≡ false → settled asked length found ≡ settled asked length other
 unfolding settled
-settled_alone asked length found other h = none_asked asked length found other (known_page asked) (known_block asked) (known_meta asked) (known_magic asked) h
+settled_alone asked length found other h =
+    ap reached (none_asked asked length found other (known_page asked) (known_block asked) (known_meta asked) (known_magic asked) h)

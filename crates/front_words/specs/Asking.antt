@@ -1,11 +1,15 @@
 -- What a line asks for.
-use Rattle.std.specs.Prelude.{ℕ, ◌+◌, ◌-◌, List, [], ◌∷◌, length, slice_get, Bool, true, false, not, Option, Some, None, is_some, is_none, option_and_then, Result, Ok, Err, ◌==◌, ◌&&◌, ◌||◌, nat_le, if◌then◌else◌}
+use Rattle.std.specs.Prelude.{ℕ, ◌+◌, ◌-◌, List, [], ◌∷◌, length, slice_get, Bool, true, false, not, Option, Some, None, is_some, is_none, option_and_then}
+use Rattle.std.specs.Prelude.{Result, Ok, Err, ◌==◌, ◌&&◌, ◌||◌, nat_le, if◌then◌else◌}
 use Rattle.geometry.specs.declared.magic.MagicKind.{MagicKind}
 use Rattle.front_words.specs.declared.word.Word.{Word}
 use Rattle.front_words.specs.declared.word.Word.TheVariants.{Ls, Pack, Gen, Unpack, Fsck, Cat, Put, Rm, Mv, Df, Size, Picture}
 use Rattle.front_words.specs.declared.word.Preset.{Preset}
 use Rattle.front_words.specs.declared.option.Slot.{Slot}
-use Rattle.front_words.specs.declared.option.Slot.TheVariants.{Page as PageSlot, Block as BlockSlot, Size as SizeSlot, Meta as MetaSlot, Magic as MagicSlot, At as AtSlot, Preset as PresetSlot, DryRun, Repair, Svg, Force, Create, Unpack as UnpackSlot, List as ListSlot, Visualize, AllFiles, Debug, UseMagic, NameLength, NoMagic, BigEndian, Aligned, Links, NoValue, Unknown}
+use Rattle.front_words.specs.declared.option.Slot.TheVariants.{Page as PageSlot, Block as BlockSlot, Size as SizeSlot, Meta as MetaSlot, Magic as MagicSlot}
+use Rattle.front_words.specs.declared.option.Slot.TheVariants.{At as AtSlot, Preset as PresetSlot, DryRun, Repair, Svg, Force, Create, Unpack as UnpackSlot}
+use Rattle.front_words.specs.declared.option.Slot.TheVariants.{List as ListSlot, Visualize, AllFiles, Debug, UseMagic, NameLength, NoMagic, BigEndian, Aligned}
+use Rattle.front_words.specs.declared.option.Slot.TheVariants.{Links, NoValue, Unknown}
 use Rattle.front_words.specs.declared.asked.Asked.{Asked}
 use Rattle.front_words.specs.declared.asked.Act.{Act}
 use Rattle.front_words.specs.declared.asked.Act.TheVariants.{ByOption, ByPlace, Several}
@@ -61,7 +65,8 @@ acted_word Several ws = Err TwoWords
 
 -- what a line does
 unfoldable pub word_found : (Slot → Held) → List (List ℕ) → Result Found Refusal
-word_found gives ws = acted_word (act_of (is_something (gives Create)) (is_something (gives UnpackSlot)) (is_something (gives ListSlot)) (is_something (gives Visualize))) ws
+word_found gives ws =
+    acted_word (act_of (is_something (gives Create)) (is_something (gives UnpackSlot)) (is_something (gives ListSlot)) (is_something (gives Visualize))) ws
 
 -- the number that is given
 abbrev pub number_held : Held → Option ℕ
@@ -169,7 +174,8 @@ fault_of word slot (Once text) =
 
 -- all slots
 abbrev pub all_slots : List Slot
-all_slots = PageSlot ∷ BlockSlot ∷ SizeSlot ∷ MetaSlot ∷ MagicSlot ∷ AtSlot ∷ PresetSlot ∷ DryRun ∷ Repair ∷ Svg ∷ Force ∷ Create ∷ UnpackSlot ∷ ListSlot ∷ Visualize ∷ AllFiles ∷ Debug ∷ UseMagic ∷ NameLength ∷ NoMagic ∷ BigEndian ∷ Aligned ∷ Links ∷ NoValue ∷ Unknown ∷ []
+all_slots = PageSlot ∷ BlockSlot ∷ SizeSlot ∷ MetaSlot ∷ MagicSlot ∷ AtSlot ∷ PresetSlot ∷ DryRun ∷ Repair ∷ Svg ∷ Force ∷ Create ∷ UnpackSlot ∷ ListSlot
+    ∷ Visualize ∷ AllFiles ∷ Debug ∷ UseMagic ∷ NameLength ∷ NoMagic ∷ BigEndian ∷ Aligned ∷ Links ∷ NoValue ∷ Unknown ∷ []
 
 -- the first of these faults
 abbrev pub or_else : Option Refusal → Option Refusal → Option Refusal

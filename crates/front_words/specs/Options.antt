@@ -3,7 +3,9 @@ use Rattle.std.specs.Prelude.{List, ℕ, Bool, ◌||◌, Option, Some, None, cod
 use Rattle.std.specs.Option.{option_or}
 use Rattle.call_script.specs.Lines.{is_text}
 use Rattle.front_words.specs.declared.option.Slot.{Slot}
-use Rattle.front_words.specs.declared.option.Slot.TheVariants.{Page, Block, Size, Meta, Magic, At, Preset, DryRun, Repair, Svg, Force, Create, Unpack, List as Lists, Visualize, AllFiles, Debug, UseMagic, NameLength, NoMagic, BigEndian, Aligned, Links, NoValue, Unknown}
+use Rattle.front_words.specs.declared.option.Slot.TheVariants.{Page, Block, Size, Meta, Magic, At, Preset, DryRun, Repair, Svg, Force, Create, Unpack}
+use Rattle.front_words.specs.declared.option.Slot.TheVariants.{List as Lists, Visualize, AllFiles, Debug, UseMagic, NameLength, NoMagic, BigEndian, Aligned}
+use Rattle.front_words.specs.declared.option.Slot.TheVariants.{Links, NoValue, Unknown}
 
 -- its place in the list of what options give
 abbrev pub rank : Slot → ℕ

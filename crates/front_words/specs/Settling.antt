@@ -1,5 +1,6 @@
 -- The numbers of the volume that a line means.
-use Rattle.std.specs.Prelude.{◌≡◌, ℕ, ◌-◌, ◌*◌, ◌/◌, ◌%◌, List, [], ◌∷◌, filter, Bool, true, false, not, Option, Some, None, is_none, option_map, unwrap_or, Result, Ok, Err, ◌==◌, ◌&&◌, ◌||◌, nat_le, if◌then◌else◌}
+use Rattle.std.specs.Prelude.{◌≡◌, ℕ, ◌+◌, ◌-◌, ◌*◌, ◌/◌, ◌%◌, List, [], ◌∷◌, filter, Bool, true, false, not, Option, Some, None, is_none, option_map}
+use Rattle.std.specs.Prelude.{unwrap_or, Result, Ok, Err, ◌==◌, ◌&&◌, ◌||◌, nat_le, if◌then◌else◌}
 use Rattle.geometry.specs.declared.magic.MagicKind.{MagicKind}
 use Rattle.geometry.specs.declared.magic.MagicKind.TheVariants.{Plain, Length}
 use Rattle.front_words.specs.declared.word.Preset.{Preset}
@@ -8,7 +9,7 @@ use Rattle.front_words.specs.declared.asked.Asked.{Asked}
 use Rattle.front_words.specs.declared.settling.Candidate.{Candidate}
 use Rattle.front_words.specs.declared.settling.Volume.{Volume}
 use Rattle.front_words.specs.declared.settling.Unsettled.{Unsettled}
-use Rattle.front_words.specs.declared.settling.Unsettled.TheVariants.{NoSize, Uneven, NoneFound, Several, AnyMeta}
+use Rattle.front_words.specs.declared.settling.Unsettled.TheVariants.{NoSize, Uneven, NoneFound, Several, AnyMeta, TooFar}
 use Rattle.front_words.specs.Asking.{makes, changes}
 
 -- the first of two, where it is given
@@ -71,7 +72,8 @@ fits_magic (Some given) kind = same_magic given kind
 
 -- a volume that was found is as far as numbers are known the one that is meant
 abbrev pub agrees : Asked → Candidate → Bool
-agrees asked c = fits asked.at c.at && (fits (known_page asked) c.page && (fits (known_block asked) c.block && (fits asked.size (c.block * c.blocks) && fits_magic (known_magic asked) c.magic)))
+agrees asked c = fits asked.at c.at && (fits (known_page asked) c.page
+    && (fits (known_block asked) c.block && (fits asked.size (c.block * c.blocks) && fits_magic (known_magic asked) c.magic)))
 
 -- one of the volumes that were found, by its least number of meta bytes that reads most, if none is known
 abbrev pub found_volume : Candidate → (meta : ℕ) → Volume
@@ -103,9 +105,19 @@ settled_by asked length found (Some page) (Some block) None magic = chosen asked
 settled_by asked length found (Some page) None meta magic = chosen asked (agreeing asked found)
 settled_by asked length found None block meta magic = chosen asked (agreeing asked found)
 
+-- the byte of the file behind the last one of a volume
+abbrev pub end_of : Volume → ℕ
+end_of v = v.at + v.block * v.blocks
+
+-- a volume that ends in reach: of a file the first 2 ^ 32 - 1 bytes are reached
+abbrev pub reached : Result Volume Unsettled → Result Volume Unsettled
+reached (Err why) = Err why
+reached (Ok v) = if nat_le (end_of v) 4294967295 then Ok v else Err (TooFar v.at (end_of v))
+
 -- the volume that a line means, in a file of so many bytes
 unfoldable pub settled : Asked → (length : ℕ) → List Candidate → Result Volume Unsettled
-settled asked length found = settled_by asked length found (known_page asked) (known_block asked) (known_meta asked) (known_magic asked)
+settled asked length found =
+    reached (settled_by asked length found (known_page asked) (known_block asked) (known_meta asked) (known_magic asked))
 
 -- the volumes that were found are asked
 abbrev pub needs_found : Asked → Bool

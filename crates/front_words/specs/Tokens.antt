@@ -67,7 +67,12 @@ ended_parts (w ∷ ws) = InPlace w ∷ ended_parts ws
 abbrev pub parts : List (List ℕ) → List Part
 parts [] = []
 parts (w ∷ []) = elim (sort w) [ Plain ↦ InPlace w ∷ [] | Ends ↦ [] | Holds slot text ↦ Chose slot text ∷ [] | Takes slot ↦ Chose NoValue w ∷ [] ]
-parts (w ∷ v ∷ ws) = elim (sort w) [ Plain ↦ InPlace w ∷ parts (v ∷ ws) | Ends ↦ ended_parts (v ∷ ws) | Holds slot text ↦ Chose slot text ∷ parts (v ∷ ws) | Takes slot ↦ Chose slot v ∷ parts ws ]
+parts (w ∷ v ∷ ws) = elim (sort w) [
+  | Plain ↦ InPlace w ∷ parts (v ∷ ws)
+  | Ends ↦ ended_parts (v ∷ ws)
+  | Holds slot text ↦ Chose slot text ∷ parts (v ∷ ws)
+  | Takes slot ↦ Chose slot v ∷ parts ws
+]
 
 -- an option whose value is the next word, and what stands behind
 abbrev pub valued_parts : Slot → List ℕ → List (List ℕ) → List Part

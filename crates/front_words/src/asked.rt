@@ -1,7 +1,9 @@
 ghost use Rattle.std.specs.Prelude.{◌≡◌, ◌≤◌, map, string_bytes, slice_get};
 ghost use Rattle.front_words.specs.Amounts.{amount};
 ghost use Rattle.front_words.specs.Tokens.{parts, places, held_by};
-ghost use Rattle.front_words.specs.Asking.{asked_by, act_of, placed_word, word_found, number_held, second_number as the_second, magic_held, preset_held, in_slot, is_something, gifts, is_good, is_number, fault_of, first_fault, all_slots, place_limit, limit_of, has_places, size_in, has_size, filled, means, is_refused, makes as the_makes, changes as the_changes};
+ghost use Rattle.front_words.specs.Asking.{asked_by, act_of, placed_word, word_found, number_held, second_number as the_second, magic_held, preset_held};
+ghost use Rattle.front_words.specs.Asking.{in_slot, is_something, gifts, is_good, is_number, fault_of, first_fault, all_slots, place_limit, limit_of};
+ghost use Rattle.front_words.specs.Asking.{has_places, size_in, has_size, filled, means, is_refused, makes as the_makes, changes as the_changes};
 
 use crate::amount::read_amount;
 use crate::giving::{Given, given_for, place};

@@ -64,3 +64,30 @@ pub fn given_for(words: &[String], slot: Slot) -> Given<'_>
     }
     found
 }
+
+// The value that a part gives for a slot.
+fn value_in<'w>(token: Token<'w>, slot: Slot) -> Option<&'w [u8]>
+    ensures { option_copied result ≡ slice_get (text_in (rank slot) (part_of token.entry)) 0 }
+{
+    match token {
+        Token::Chosen(other, text) if other.rank() == slot.rank() => Some(text),
+        _ => None,
+    }
+}
+
+/// The first value that a line gives for a slot.
+pub fn first_given(words: &[String], slot: Slot) -> Option<&[u8]>
+    ensures { option_copied result ≡ slice_get (texts (rank slot) (parts (map string_bytes words.now))) 0 }
+{
+    let mut rest = words;
+    let mut is_ended = false;
+    while let Some((token, behind, ends)) = next_token(rest, is_ended) {
+        let value = value_in(token, slot);
+        if value.is_some() {
+            return value;
+        }
+        rest = behind;
+        is_ended = ends;
+    }
+    None
+}

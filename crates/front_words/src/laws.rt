@@ -1,8 +1,8 @@
-ghost use Rattle.std.specs.Prelude.{◌≡◌, ℕ, ◌<◌, List, ◌∷◌, ◌++◌, length, false, Ok, IsErr};
+ghost use Rattle.std.specs.Prelude.{◌≡◌, ℕ, ◌<◌, ◌≤◌, List, ◌∷◌, ◌++◌, length, false, Ok, IsErr};
 ghost use Rattle.front_words.specs.Tokens.{Part, parts, places, Twice};
 ghost use Rattle.front_words.specs.Pieces.{Piece, line, AreFree};
 ghost use Rattle.front_words.specs.Asking.{asked_by, in_slot};
-ghost use Rattle.front_words.specs.Settling.{settled, needs_found, KeepsNumbers};
+ghost use Rattle.front_words.specs.Settling.{settled, needs_found, end_of, KeepsNumbers};
 ghost use Rattle.front_words.specs.Scripts.{working};
 ghost use Rattle.front_words.specs.declared.asked.Asked.{Asked};
 ghost use Rattle.front_words.specs.declared.option.Slot.{Slot};
@@ -30,9 +30,15 @@ pub fn given_numbers_are_kept()
     ensures { (asked : Asked) (length : ℕ) (found : List Candidate) (v : Volume) → settled asked length found ≡ Ok v → KeepsNumbers asked v }
 {}
 
+/// Each byte of the volume that a line means is among the first 2^32 - 1 of the file, which are reached.
+pub fn volumes_are_in_reach()
+    ensures { (asked : Asked) (length : ℕ) (found : List Candidate) (v : Volume) → settled asked length found ≡ Ok v → end_of v ≤ 4294967295 }
+{}
+
 /// A line that gives all numbers of its volume, or by a preset, means that volume whatever the file holds.
 pub fn known_numbers_ask_for_no_look()
-    ensures { (asked : Asked) (length : ℕ) (found other : List Candidate) → needs_found asked ≡ false → settled asked length found ≡ settled asked length other }
+    ensures { (asked : Asked) (length : ℕ) (found other : List Candidate) → needs_found asked ≡ false →
+        settled asked length found ≡ settled asked length other }
 {}
 
 /// A working name is another name of the same length, and turned again it is the name.

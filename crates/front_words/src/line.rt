@@ -12,9 +12,9 @@ fn command(word: Word) -> &'static str
     ensures { result.now ≡ command_of word }
 {
     match word {
-        Word::Ls => "list",
+        Word::Ls | Word::Cat => "list",
         Word::Pack | Word::Gen => "make",
-        Word::Unpack | Word::Cat => "extract",
+        Word::Unpack => "extract",
         Word::Fsck => "check",
         Word::Put | Word::Rm | Word::Mv | Word::Df => "run",
         Word::Size => "size",
@@ -50,7 +50,8 @@ fn push_number(alloc: Global, line: &mut Vec<String>, number: u32) -> Result<(),
 
 // Appends the numbers of a volume to a line.
 fn push_numbers(alloc: Global, line: &mut Vec<String>, volume: &Volume) -> Result<(), AllocError>
-    ensures { OnOk result (map string_bytes line.new.items ≡ map string_bytes line.old.items ++ decimal volume.now.page ∷ decimal volume.now.block ∷ decimal volume.now.blocks ∷ decimal volume.now.meta ∷ []) }
+    ensures { OnOk result (map string_bytes line.new.items
+        ≡ map string_bytes line.old.items ++ decimal volume.now.page ∷ decimal volume.now.block ∷ decimal volume.now.blocks ∷ decimal volume.now.meta ∷ []) }
 {
     push_number(alloc, line, volume.page)?;
     push_number(alloc, line, volume.block)?;

@@ -1,5 +1,6 @@
 ghost use Rattle.std.specs.Prelude.{◌≡◌, Option};
-ghost use Rattle.front_words.specs.Options.{is_either as either, plain_valued, gen_valued, valued, plain_switched, gen_switched, switched, rank, text_of as text_for};
+ghost use Rattle.front_words.specs.Options.{is_either as either, plain_valued, gen_valued, valued, plain_switched, gen_switched, switched, rank};
+ghost use Rattle.front_words.specs.Options.{text_of as text_for};
 
 use crate::word::is;
 

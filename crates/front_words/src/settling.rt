@@ -1,5 +1,8 @@
-ghost use Rattle.std.specs.Prelude.{◌≡◌, ◌∷◌, [], MatchOption, option_map};
-ghost use Rattle.front_words.specs.Settling.{first_of as the_first, preset_of as whose, meta_by, known_page as the_page, known_block as the_block, known_meta as the_meta, known_magic as the_magic, start_of, bytes_of, sized as the_sized, fits as the_fit, fits_magic, same_magic, agrees as the_agreement, found_volume as the_volume, with_meta as the_meta_of, as_good, chosen, agreeing, settled, needs_found};
+ghost use Rattle.std.specs.Prelude.{◌≡◌, ◌∷◌, [], Ok, MatchOption, option_map};
+ghost use Rattle.front_words.specs.Settling.{first_of as the_first, preset_of as whose, meta_by, known_page as the_page, known_block as the_block};
+ghost use Rattle.front_words.specs.Settling.{known_meta as the_meta, known_magic as the_magic, start_of, bytes_of, sized as the_sized, fits as the_fit};
+ghost use Rattle.front_words.specs.Settling.{fits_magic, same_magic, agrees as the_agreement, found_volume as the_volume, with_meta as the_meta_of, as_good};
+ghost use Rattle.front_words.specs.Settling.{chosen, agreeing, end_of, reached, settled, needs_found};
 
 use crate::asked::{Asked, changes, makes};
 use crate::word::Preset;
@@ -58,7 +61,12 @@ pub enum Unsettled {
     Several,
     /// The one that was found reads as much by several numbers of meta bytes, and the line would change it.
     AnyMeta,
+    /// The volume that begins at byte `at` ends before byte `end` of the file, of which the first 2^32 - 1 are reached.
+    TooFar { at: u32, end: u64 },
 }
+
+/// How many bytes of a file are reached.
+const REACH: u64 = 4_294_967_295;
 
 // A number that is given, else another.
 fn first_of(given: Option<u32>, other: Option<u32>) -> Option<u32>
@@ -188,7 +196,7 @@ struct Kept {
 fn sized(asked: &Asked, bytes: u64, kept: Kept) -> Result<Volume, Unsettled>
     ensures { result ≡ the_sized asked.now bytes kept.page kept.block kept.meta kept.magic }
 {
-    if bytes == 0 || bytes > 4_294_967_295 {
+    if bytes == 0 || bytes > REACH {
         return Err(Unsettled::NoSize);
     }
     let size = bytes as u32;
@@ -302,13 +310,32 @@ fn choose(asked: &Asked, found: &[Candidate]) -> Result<Volume, Unsettled>
     }
 }
 
+// The byte of the file behind the last one of a volume.
+fn end(volume: Volume) -> u64
+    ensures { result ≡ end_of volume }
+{
+    u64::from(volume.at) + u64::from(volume.block) * u64::from(volume.blocks)
+}
+
+// A volume, where it ends in reach.
+fn within_reach(volume: Volume) -> Result<Volume, Unsettled>
+    ensures { result ≡ reached (Ok volume) }
+{
+    let end = end(volume);
+    if end > REACH {
+        return Err(Unsettled::TooFar { at: volume.at, end });
+    }
+    Ok(volume)
+}
+
 /// The volume that a line means in a file of so many bytes. What `found` holds are the volumes that `detect` finds in it, the best first. It
-/// is asked only where a number is neither given nor that of a preset; of an image that is made none ever is.
+/// is asked only where a number is neither given nor that of a preset; of an image that is made none ever is. A volume of which a byte isn't
+/// reached is refused.
 #[tactic(auto, unfolding(crate::specs::Settling::settled))]
 pub fn settle(asked: &Asked, length: u64, found: &[Candidate]) -> Result<Volume, Unsettled>
     ensures { result ≡ settled asked.now length found.now }
 {
-    match (
+    let meant = match (
         known_page(asked),
         known_block(asked),
         known_meta(asked),
@@ -324,7 +351,8 @@ pub fn settle(asked: &Asked, length: u64, found: &[Candidate]) -> Result<Volume,
             sized(asked, byte_count(asked, length), kept)
         }
         _ => choose(asked, found),
-    }
+    };
+    within_reach(meant?)
 }
 
 /// Whether `settle` looks at what `detect` finds.

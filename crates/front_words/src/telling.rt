@@ -131,6 +131,12 @@ impl fmt::Display for Unsettled {
                     "files read as well by several METAs: give the one of the firmware by --meta"
                 )
             }
+            Unsettled::TooFar { at, end } => {
+                write!(
+                    f,
+                    "the volume from byte {at} on ends at byte {end}, and the most is 4294967295: give a lower --at or --size"
+                )
+            }
         }
     }
 }

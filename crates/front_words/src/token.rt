@@ -1,7 +1,8 @@
 ghost use Rattle.std.specs.Prelude.{◌≡◌, ◌∷◌, ◌<◌, ◌≤◌, ⊤, [], length, map, string_bytes, MatchOption, IfSome};
 ghost use Rattle.std.specs.Option.{option_copied};
 ghost use Rattle.front_words.specs.Options.{switched};
-ghost use Rattle.front_words.specs.Tokens.{sort, sort_of, option_sort, switch_sort, part_of, rest_parts, ended_parts, valued_parts, sorted_parts, name_at, value_at, equals_at};
+ghost use Rattle.front_words.specs.Tokens.{sort, sort_of, option_sort, switch_sort, part_of, rest_parts, ended_parts, valued_parts, sorted_parts, name_at};
+ghost use Rattle.front_words.specs.Tokens.{value_at, equals_at};
 
 use crate::option::{Slot, switch_text, switched_slot, valued_slot};
 

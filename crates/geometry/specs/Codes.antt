@@ -1,7 +1,8 @@
 -- The numbers by which the tools tell why a volume is refused.
 use Rattle.std.specs.Prelude.{ℕ}
 use Rattle.geometry.specs.declared.error.GeoErr.{GeoErr}
-use Rattle.geometry.specs.declared.error.GeoErr.TheVariants.{BadPage, BadBlock, TooFewBlocks, TooManyPages, NoRoomForMagic, BadMeta, TooManyUsable, TooFewToWrite, WrongChip}
+use Rattle.geometry.specs.declared.error.GeoErr.TheVariants.{BadPage, BadBlock, TooFewBlocks, TooManyPages, NoRoomForMagic, BadMeta, TooManyUsable}
+use Rattle.geometry.specs.declared.error.GeoErr.TheVariants.{TooFewToWrite, WrongChip}
 
 -- the code of a refusal
 abbrev pub code_of : GeoErr → ℕ

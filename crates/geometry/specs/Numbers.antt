@@ -4,7 +4,8 @@ use Rattle.geometry.specs.declared.geometry.Geometry.{Geometry}
 use Rattle.geometry.specs.declared.magic.MagicKind.{MagicKind}
 use Rattle.geometry.specs.declared.magic.MagicKind.TheVariants.{Plain, Length}
 use Rattle.geometry.specs.declared.error.GeoErr.{GeoErr}
-use Rattle.geometry.specs.declared.error.GeoErr.TheVariants.{BadPage, BadBlock, TooFewBlocks, TooManyPages, NoRoomForMagic, BadMeta, TooManyUsable, TooFewToWrite}
+use Rattle.geometry.specs.declared.error.GeoErr.TheVariants.{BadPage, BadBlock, TooFewBlocks, TooManyPages, NoRoomForMagic, BadMeta, TooManyUsable}
+use Rattle.geometry.specs.declared.error.GeoErr.TheVariants.{TooFewToWrite}
 use Rattle.geometry.specs.Rules.{pages_in, lookups_in, is_page, is_block, has_magic_room}
 
 -- pages of a block

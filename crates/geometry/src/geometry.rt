@@ -32,7 +32,10 @@ pub struct Geometry {
 
 impl Geometry {
     ghost use Rattle.std.specs.Prelude.{◌≡◌, ◌<◌, ◌≤◌, ◌*◌, ◌^◌, IfOk, IfErr, OnOk, Some, None};
-    ghost use Rattle.geometry.specs.Numbers.{refusal, write_refusal, IsOf, per_block as per_block_of, lookups as lookups_of, entries as entries_of, body as body_of, head_slots as head_slots_of, span_slots as span_slots_of, page_count, usable as usable_of, scratch_need as scratch_need_of, rows_need as rows_need_of, work_need as work_need_of, cache_need as cache_need_of, check_need as check_need_of, length_mark as length_mark_of, right_magic};
+    ghost use Rattle.geometry.specs.Numbers.{refusal, write_refusal, IsOf, per_block as per_block_of, lookups as lookups_of, entries as entries_of};
+    ghost use Rattle.geometry.specs.Numbers.{body as body_of, head_slots as head_slots_of, span_slots as span_slots_of, page_count, usable as usable_of};
+    ghost use Rattle.geometry.specs.Numbers.{scratch_need as scratch_need_of, rows_need as rows_need_of, work_need as work_need_of};
+    ghost use Rattle.geometry.specs.Numbers.{cache_need as cache_need_of, check_need as check_need_of, length_mark as length_mark_of, right_magic};
 
     /// A volume of these numbers: `page`, `block` and `phys` in bytes, `meta` in bytes for each file. Of
     /// several rules that are broken, the first in the order of `GeoErr` is answered.

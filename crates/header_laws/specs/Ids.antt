@@ -26,4 +26,5 @@ HasNames g = (a : List ℕ) → IsImage g a → IsTidy g a → (name : List ℕ)
 
 -- Where nothing is damaged, the next id with a header page is that of the next file.
 abbrev pub NextIs : Geometry → Type 0
-NextIs g = (a : List ℕ) → damaged_of g a ≡ [] → (after : ℕ) (found : Option ℕ) → NextId g a after found → found ≡ option_map (λ f. f.id) (file_above after (table_of g a))
+NextIs g = (a : List ℕ) → damaged_of g a ≡ [] → (after : ℕ) (found : Option ℕ) → NextId g a after found →
+    found ≡ option_map (λ f. f.id) (file_above after (table_of g a))

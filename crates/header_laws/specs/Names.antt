@@ -22,4 +22,5 @@ NewNameUnused = (id : ℕ) (name : List ℕ) (files : List File) → has_name na
 
 -- and where nothing is damaged, so is that of a file of the table.
 abbrev pub OwnNameUnused : Geometry → Type 0
-OwnNameUnused g = (a : List ℕ) → damaged_of g a ≡ [] → (id : ℕ) (f : File) → file_of id (table_of g a) ≡ Some f → All (λ x. x.id ≢ id → x.name ≢ f.name) (table_of g a)
+OwnNameUnused g = (a : List ℕ) → damaged_of g a ≡ [] → (id : ℕ) (f : File) → file_of id (table_of g a) ≡ Some f →
+    All (λ x. x.id ≢ id → x.name ≢ f.name) (table_of g a)

@@ -28,7 +28,8 @@ pub record Adds (g : Geometry) (files more : List File) (index pages : ℕ) : Ty
 
 -- A file of an unused id adds its own pages.
 abbrev pub PutAdds : Geometry → Type 0
-PutAdds g = (f : File) (files : List File) → has_id f.id files ≡ false → Adds g files (put_file f files) (index_pages g (length f.bytes)) (data_pages g (length f.bytes))
+PutAdds g = (f : File) (files : List File) → has_id f.id files ≡ false →
+    Adds g files (put_file f files) (index_pages g (length f.bytes)) (data_pages g (length f.bytes))
 
 -- A new file adds one index page and no data page.
 abbrev pub NewAdds : Geometry → Type 0

@@ -97,17 +97,17 @@ fn note(
     Ok(())
 }
 
-// Notes what stands in a folder below the top.
+// Notes what stands in a folder below the top, whose path the host opens.
 fn list_one<R: Files>(
     rt: &R,
     alloc: Global,
     top: &str,
     folder: &str,
+    full: &str,
     folders: &mut Vec<String>,
     listed: &mut Listed,
 ) -> io::Result<()> {
-    let full = folder_path(alloc, top, folder)?;
-    for entry in fs::read_dir(&(rt, alloc), full.as_str())? {
+    for entry in fs::read_dir(&(rt, alloc), full)? {
         let entry = entry?;
         // (a link is told as one, and never gone into)
         let told = entry.metadata()?;
@@ -117,8 +117,14 @@ fn list_one<R: Files>(
     Ok(())
 }
 
-/// What stands in the tree below a folder, in the order in which the host tells it. No link is followed, but for the folder itself.
-pub(crate) fn list<R: Files>(rt: &R, alloc: Global, top: &str) -> io::Result<Listed> {
+/// What stands in the tree below a folder, in the order in which the host tells it. No link is followed, but for the folder itself. `asked`
+/// becomes the path of the folder that is read last: where the listing fails, of the one that can't be read.
+pub(crate) fn list<R: Files>(
+    rt: &R,
+    alloc: Global,
+    top: &str,
+    asked: &mut String,
+) -> io::Result<Listed> {
     let mut listed = Listed::none(alloc);
     let mut folders = Vec::new(alloc);
     folders.push(String::new(alloc))?;
@@ -127,7 +133,16 @@ pub(crate) fn list<R: Files>(rt: &R, alloc: Global, top: &str) -> io::Result<Lis
         let Some(folder) = folders.pop() else {
             return Ok(listed);
         };
-        list_one(rt, alloc, top, folder.as_str(), &mut folders, &mut listed)?;
+        *asked = folder_path(alloc, top, folder.as_str())?;
+        list_one(
+            rt,
+            alloc,
+            top,
+            folder.as_str(),
+            asked.as_str(),
+            &mut folders,
+            &mut listed,
+        )?;
     }
     Err(Error::from(ErrorKind::FileTooLarge))
 }

@@ -21,6 +21,8 @@ pub struct TreeFiles<R: Files + Drop> {
     top: String,
     makes: bool,
     listed: RefCell<Listed>,
+    // The path of which the host was asked last.
+    asked: RefCell<String>,
 }
 
 /// The names of a folder, each ended by a zero byte.
@@ -103,6 +105,7 @@ impl<R: Files + Drop> TreeFiles<R> {
             top: String::from_str(alloc, top)?,
             makes,
             listed: RefCell::new(Listed::none(alloc)),
+            asked: RefCell::new(String::from_str(alloc, top)?),
         })
     }
 
@@ -129,9 +132,31 @@ impl<R: Files + Drop> TreeFiles<R> {
         }
     }
 
+    /// The path of which the host was asked last: a folder that was read, or a file that was opened, made or told of. Where that failed, it is
+    /// the path on which it did.
+    pub fn asked_path(&self) -> io::Result<String> {
+        let Ok(asked) = self.asked.try_borrow() else {
+            return Err(is_lent());
+        };
+        Ok(String::from_str(self.alloc, asked.as_str())?)
+    }
+
+    // Notes a path of which the host is asked.
+    fn ask(&self, path: &str) -> io::Result<()> {
+        let path = String::from_str(self.alloc, path)?;
+        let Ok(mut asked) = self.asked.try_borrow_mut() else {
+            return Err(is_lent());
+        };
+        *asked = path;
+        Ok(())
+    }
+
     // Lists the tree.
     fn list_anew(&self) -> io::Result<()> {
-        let listed = match list(&self.rt, self.alloc, self.top.as_str()) {
+        let mut asked = String::new(self.alloc);
+        let found = list(&self.rt, self.alloc, self.top.as_str(), &mut asked);
+        self.ask(asked.as_str())?;
+        let listed = match found {
             Err(why) if self.makes && why.kind() == ErrorKind::NotFound => Listed::none(self.alloc),
             other => other?,
         };
@@ -180,6 +205,7 @@ impl<R: Files + Drop> TreeFiles<R> {
     fn make(&self, how: &OpenOptions, entry: &str) -> io::Result<R::File> {
         let name = decoded(self.alloc, last_part(entry).as_bytes())?;
         let path = self.new_path(name.as_slice())?;
+        self.ask(path.as_str())?;
         make_folders(&self.rt, self.top.as_str(), path.as_str())?;
         let file = self.rt.open_file(how, path.as_str())?;
         self.know(name, path)?;
@@ -189,6 +215,7 @@ impl<R: Files + Drop> TreeFiles<R> {
     // Opens the file of an entry that is there.
     fn open_known(&self, how: &OpenOptions, entry: &str) -> io::Result<R::File> {
         let path = self.host_path(entry)?;
+        self.ask(path.as_str())?;
         want_plain(&self.rt, path.as_str())?;
         self.rt.open_file(how, path.as_str())
     }
@@ -220,6 +247,7 @@ impl<R: Files + Drop> Files for TreeFiles<R> {
 
     fn symlink_metadata(&self, path: &str) -> io::Result<Metadata> {
         let path = self.host_path(path)?;
+        self.ask(path.as_str())?;
         self.rt.symlink_metadata(path.as_str())
     }
 

@@ -4,7 +4,8 @@ ghost use Rattle.std.specs.List.{All, list_all, list_any};
 ghost use Rattle.image_model.specs.Kinds.{is_data_block as the_data_block};
 ghost use Rattle.geometry.specs.Numbers.{ceil, entries};
 ghost use Rattle.image_model.specs.Places.{IsImage};
-ghost use Rattle.image_model.specs.Collect.{is_worth as the_worth, is_fitting as the_fitting, candidates as the_candidates, first_candidates as the_first_candidates, best_of as the_best, chosen_block as the_chosen, score as the_score};
+ghost use Rattle.image_model.specs.Collect.{is_worth as the_worth, is_fitting as the_fitting, candidates as the_candidates};
+ghost use Rattle.image_model.specs.Collect.{first_candidates as the_first_candidates, best_of as the_best, chosen_block as the_chosen, score as the_score};
 
 use crate::ages::{next_count, score_with};
 use crate::places::{BlockKind, free_outside};

@@ -4,7 +4,8 @@ ghost use Rattle.geometry.specs.Numbers.{page_count};
 ghost use Rattle.image_model.specs.Places.{IsImage, has_magic as the_magic};
 ghost use Rattle.image_model.specs.Tidy.{is_wanted as the_wanted, is_free_block as the_free_block};
 ghost use Rattle.image_model.specs.Collect.{count_in as the_count_in, free_in as the_free_in};
-ghost use Rattle.image_model.specs.Shared.{is_shared as the_shared, wanted_index_in, wanted_data_in, shared_blocks as the_shared_blocks, shared_index as the_shared_index, open_entries as the_open_entries, fits_over as the_fits_over};
+ghost use Rattle.image_model.specs.Shared.{is_shared as the_shared, wanted_index_in, wanted_data_in, shared_blocks as the_shared_blocks};
+ghost use Rattle.image_model.specs.Shared.{shared_index as the_shared_index, open_entries as the_open_entries, fits_over as the_fits_over};
 ghost use Rattle.image_plain.specs.Wanting.{AreWanted};
 ghost use Rattle.image_collect.specs.Wanted.{is_wanted_of as the_wanted_of};
 
@@ -112,7 +113,8 @@ fn open_part(g: &Geometry, image: &[u8], wanted: &[bool], block: u32) -> u32
     requires wanted { AreWanted g.now image.now (page_count g.now) wanted.now }
     requires block { block < g.now.blocks }
     ensures small { result < 2 ^ 32 }
-    ensures value { result ≡ (if the_magic g.now image.now block && not (the_free_block g.now image.now block) && (wanted_data_in g.now image.now block == 0) then the_free_in g.now image.now block else 0) }
+    ensures value { result ≡ (if the_magic g.now image.now block && not (the_free_block g.now image.now block) && (wanted_data_in g.now image.now block == 0)
+        then the_free_in g.now image.now block else 0) }
 {
     if has_magic(g, image, block)
         && !is_free_block(g, image, block)

@@ -1,5 +1,6 @@
 -- The printed text.
-use Rattle.std.specs.Prelude.{ℕ, List, [], ◌∷◌, ◌++◌, length, Bool, true, false, not, nat_lt, ◌==◌, ◌&&◌, ◌||◌, Option, Some, None, if◌then◌else◌, codes, decimal, nat_le, ◌*◌}
+use Rattle.std.specs.Prelude.{ℕ, List, [], ◌∷◌, ◌++◌, length, Bool, true, false, not, nat_lt, ◌==◌, ◌&&◌, ◌||◌, Option, Some, None, if◌then◌else◌, codes}
+use Rattle.std.specs.Prelude.{decimal, nat_le, ◌*◌}
 use Rattle.std.specs.Fmt.{signed_decimal}
 use Rattle.std.specs.List.{flat_map, range_with_len}
 use Rattle.geometry.specs.declared.geometry.Geometry.{Geometry}
@@ -75,17 +76,20 @@ is_unfit g image block = not (has_magic g image block) || is_mixed g image block
 unfoldable pub worth_text : Geometry → List ℕ → ℕ → List ℕ
 worth_text g image block =
     if is_unfit g image block then codes " worth - fits - score -"
-    else codes " worth " ++ yes_no (is_worth g image block) ++ codes " fits " ++ yes_no (is_fitting g image block) ++ codes " score " ++ signed_decimal (score g image block)
+    else codes " worth " ++ yes_no (is_worth g image block) ++ codes " fits " ++ yes_no (is_fitting g image block) ++ codes " score "
+    ++ signed_decimal (score g image block)
 
 -- what a block holds: its live index pages and data pages, its deleted and free entries, and its erase count
 unfoldable pub held_text : Geometry → List ℕ → ℕ → List ℕ
 held_text g image block =
-    codes " index " ++ decimal (index_in g image block) ++ codes " data " ++ decimal (data_in g image block) ++ codes " deleted " ++ decimal (deleted_in g image block)
+    codes " index " ++ decimal (index_in g image block) ++ codes " data " ++ decimal (data_in g image block) ++ codes " deleted "
+    ++ decimal (deleted_in g image block)
     ++ codes " free " ++ decimal (free_in g image block) ++ codes " count " ++ decimal (erase_count g image block)
 
 -- the line of a block
 unfoldable pub block_line : Geometry → List ℕ → ℕ → List ℕ
-block_line g image block = codes "block " ++ decimal block ++ codes " magic " ++ yes_no (has_magic g image block) ++ held_text g image block ++ worth_text g image block ++ 10 ∷ []
+block_line g image block =
+    codes "block " ++ decimal block ++ codes " magic " ++ yes_no (has_magic g image block) ++ held_text g image block ++ worth_text g image block ++ 10 ∷ []
 
 -- a block's number, where there is one
 abbrev pub block_text : Option ℕ → List ℕ

@@ -1,5 +1,6 @@
 -- The words of the command.
-use Rattle.std.specs.Prelude.{ℕ, List, [], length, Bool, not, ◌==◌, ◌&&◌, nat_eq, Option, Some, None, if◌then◌else◌, codes, unwrap_or, slice_get, option_and_then}
+use Rattle.std.specs.Prelude.{ℕ, List, [], length, Bool, not, ◌==◌, ◌&&◌, nat_eq, Option, Some, None, if◌then◌else◌, codes, unwrap_or, slice_get}
+use Rattle.std.specs.Prelude.{option_and_then}
 use Rattle.std.specs.Cmp.Lexicographic.{pointwise}
 use Rattle.geometry.specs.declared.magic.MagicKind.{MagicKind}
 use Rattle.geometry.specs.declared.magic.MagicKind.TheVariants.{Plain, Length}
@@ -31,5 +32,6 @@ shape_form words =
     if is_form words then
     option_and_then (λ page. option_and_then (λ block. option_and_then (λ blocks. option_and_then (λ meta. option_and_then (λ magic.
     Some (record { page = page; block = block; blocks = blocks; meta = meta; magic = magic }))
-    (magic_word (word_at words 4))) (number_word (word_at words 3))) (number_word (word_at words 2))) (number_word (word_at words 1))) (number_word (word_at words 0))
+    (magic_word (word_at words 4))) (number_word (word_at words 3))) (number_word (word_at words 2))) (number_word (word_at words 1)))
+    (number_word (word_at words 0))
     else None

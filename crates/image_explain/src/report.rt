@@ -5,7 +5,8 @@ ghost use Rattle.std.specs.Option.{option_map};
 ghost use Rattle.image_model.specs.Places.{IsImage};
 ghost use Rattle.image_model.specs.Tidy.{IsTidy};
 ghost use Rattle.image_plain.specs.Seen.{file};
-ghost use Rattle.image_explain.specs.Report.{is_tidy as the_tidy, is_unfit as the_unfit, counts_text, room_line, shared_line, file_line, damage_line, worth_text, held_text, block_line, chosen_line, report_of, explained_of};
+ghost use Rattle.image_explain.specs.Report.{is_tidy as the_tidy, is_unfit as the_unfit, counts_text, room_line, shared_line, file_line, damage_line};
+ghost use Rattle.image_explain.specs.Report.{worth_text, held_text, block_line, chosen_line, report_of, explained_of};
 
 use crate::text::{push_meta, push_name, yes_no};
 use geometry::Geometry;

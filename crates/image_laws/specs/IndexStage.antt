@@ -16,7 +16,8 @@ use Rattle.image_model.specs.Sound.{HasMagics, Keeps}
 -- Killing a live index page that is not the first of its id and span, of a whole or a damaged id.
 abbrev pub DoubledKeeps : Geometry → Type 0
 DoubledKeeps g = (a b : List ℕ) (p flags : ℕ) (page : List ℕ) → IsImage g a → HasMagics g a → live_at g a p ≡ Some page → names_index page ≡ true →
-    index_page g (own (live_at g a) (obj_id page % 0x8000)) (span_of page) ≢ Some p → ClearsBit 7 (slice_index a (p * g.page + 4)) flags → HalfProgrammed (p * g.page + 4) (flags ∷ []) a b →
+    index_page g (own (live_at g a) (obj_id page % 0x8000)) (span_of page) ≢ Some p → ClearsBit 7 (slice_index a (p * g.page + 4)) flags →
+    HalfProgrammed (p * g.page + 4) (flags ∷ []) a b →
     Keeps g a b × ((q : ℕ) → q ≢ p → is_wanted g b q ≡ is_wanted g a q)
 
 -- Killing the one header page that an id has which is not in the table: the id is no longer damaged, and all else stays.
@@ -32,6 +33,7 @@ HeadlessIsIdle g = (pages : Live) (p : ℕ) → index_page g pages 0 ≡ None �
 
 -- Killing an idle page of an id that is not in the table leaves the other pages as wanted as they were.
 abbrev pub UncountedLeaves : Geometry → Type 0
-UncountedLeaves g = (a b : List ℕ) (p flags : ℕ) (page : List ℕ) → IsImage g a → live_at g a p ≡ Some page → IsIdle g (own (live_at g a) (obj_id page % 0x8000)) p →
+UncountedLeaves g = (a b : List ℕ) (p flags : ℕ) (page : List ℕ) → IsImage g a → live_at g a p ≡ Some page →
+    IsIdle g (own (live_at g a) (obj_id page % 0x8000)) p →
     counted (has_of g (live_at g a)) 0x7FFF (has_of g (live_at g a) (obj_id page % 0x8000)) ≡ None → ClearsBit 7 (slice_index a (p * g.page + 4)) flags →
     HalfProgrammed (p * g.page + 4) (flags ∷ []) a b → (q : ℕ) → q ≢ p → is_wanted g b q ≡ is_wanted g a q

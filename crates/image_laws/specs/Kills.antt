@@ -20,12 +20,14 @@ pub record Deletes (old asked : ℕ) : Type 0 where
 
 -- The flags byte of a page that is not live: whatever the image holds, cut off or not, no page comes to life.
 abbrev pub DeadFlagsKeep : Geometry → Type 0
-DeadFlagsKeep g = (a b : List ℕ) (p asked : ℕ) → IsImage g a → HasMagics g a → is_entry_page g p ≡ true → live_at g a p ≡ None → Deletes (slice_index a (p * g.page + 4)) asked →
+DeadFlagsKeep g = (a b : List ℕ) (p asked : ℕ) → IsImage g a → HasMagics g a → is_entry_page g p ≡ true → live_at g a p ≡ None →
+    Deletes (slice_index a (p * g.page + 4)) asked →
     HalfProgrammed (p * g.page + 4) (asked ∷ []) a b → ((q : ℕ) → live_at g b q ≡ live_at g a q) × Keeps g a b
 
 -- The entry of a page that is not finished, as one that is deleted.
 abbrev pub DeadEntryKeeps : Geometry → Type 0
-DeadEntryKeeps g = (a b : List ℕ) (p : ℕ) (asked : List ℕ) → IsImage g a → HasMagics g a → is_entry_page g p ≡ true → is_finished (page_of g a p) ≡ false → length asked ≡ 2 →
+DeadEntryKeeps g = (a b : List ℕ) (p : ℕ) (asked : List ℕ) → IsImage g a → HasMagics g a → is_entry_page g p ≡ true →
+    is_finished (page_of g a p) ≡ false → length asked ≡ 2 →
     HalfProgrammed (entry_at g p) asked a b → ((q : ℕ) → live_at g b q ≡ live_at g a q) × Keeps g a b
 
 -- what a turn of the first stage leaves
@@ -40,7 +42,8 @@ pub record Turned (g : Geometry) (p : ℕ) (killed : Bool) (a b : List ℕ) : Ty
 
 -- A kill takes one from the count where it leaves the other pages as wanted as they were.
 abbrev pub KillCounts : Geometry → Type 0
-KillCounts g = (a b : List ℕ) (p : ℕ) → IsImage g a → Agree g a b p → is_killable g a p ≡ true → entry_of g b p ≡ 0 → ((q : ℕ) → q ≢ p → is_wanted g b q ≡ is_wanted g a q) →
+KillCounts g = (a b : List ℕ) (p : ℕ) → IsImage g a → Agree g a b p → is_killable g a p ≡ true → entry_of g b p ≡ 0 →
+    ((q : ℕ) → q ≢ p → is_wanted g b q ≡ is_wanted g a q) →
     1 + killed_of g b ≡ killed_of g a
 
 -- Killing a page that is not wanted, of an id in the table, leaves the others as wanted as they were, done or cut off.

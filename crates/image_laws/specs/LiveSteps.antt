@@ -57,9 +57,11 @@ pub record KillDone (g : Geometry) (o : ℕ) (a b : List ℕ) : Type 0 where
   pub free : (q : ℕ) → q ≢ o → IsFreePage g a q → IsFreePage g b q
 
 abbrev pub PutChanges : Geometry → Type 0
-PutChanges g = (a0 a1 a2 a3 a4 : List ℕ) (p : ℕ) (page : List ℕ) (fin : ℕ) → IsImage g a0 → IsFreePage g a0 p → IsReadyPage g page fin → Finished g p page fin a0 a1 a2 a3 a4 →
+PutChanges g = (a0 a1 a2 a3 a4 : List ℕ) (p : ℕ) (page : List ℕ) (fin : ℕ) → IsImage g a0 → IsFreePage g a0 p → IsReadyPage g page fin →
+    Finished g p page fin a0 a1 a2 a3 a4 →
     ((c : List ℕ) → PutCut g p page fin a0 a1 a2 a3 c → PutLeaves g p (slice_set page 4 fin) a0 c) × PutDone g p (slice_set page 4 fin) a0 a4
 
 abbrev pub KillChanges : Geometry → Type 0
-KillChanges g = (a b d : List ℕ) (o kill : ℕ) (page : List ℕ) → IsImage g a → live_at g a o ≡ Some page → ClearsBit 7 (slice_index a (o * g.page + 4)) kill → Kills g o kill a b d →
+KillChanges g = (a b d : List ℕ) (o kill : ℕ) (page : List ℕ) → IsImage g a → live_at g a o ≡ Some page →
+    ClearsBit 7 (slice_index a (o * g.page + 4)) kill → Kills g o kill a b d →
     ((c : List ℕ) → KillCut g o kill a b c → KillLeaves g o a c) × KillDone g o a d

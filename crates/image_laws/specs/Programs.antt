@@ -1,5 +1,6 @@
 -- What the steps of a call do to the table of an image.
-use Rattle.std.specs.Prelude.{◌≡◌, ◌≢◌, ℕ, ◌+◌, ◌-◌, ◌*◌, ◌%◌, ◌<◌, ◌≤◌, ◌⊎◌, List, [], ◌∷◌, length, true, false, Some, None, Ok, is_some, slice_index, slice_set}
+use Rattle.std.specs.Prelude.{◌≡◌, ◌≢◌, ℕ, ◌+◌, ◌-◌, ◌*◌, ◌%◌, ◌<◌, ◌≤◌, ◌⊎◌, List, [], ◌∷◌, length, true, false, Some, None, Ok, is_some, slice_index}
+use Rattle.std.specs.Prelude.{slice_set}
 use Rattle.std.specs.List.{All}
 use Rattle.std.specs.Int.{bit_at}
 use Rattle.geometry.specs.declared.geometry.Geometry.{Geometry}
@@ -93,7 +94,8 @@ KillingKeeps g = (a b : List ℕ) (p flags : ℕ) (page : List ℕ) → IsImage 
 
 -- The program of its entry keeps them too, as that of any entry of a page that is not finished or is deleted.
 abbrev pub EntryKeeps : Geometry → Type 0
-EntryKeeps g = (a b : List ℕ) (p : ℕ) (asked : List ℕ) → IsImage g a → is_entry_page g p ≡ true → is_finished (page_of g a p) ≡ false → length asked ≡ 2 → HalfProgrammed (entry_at g p) asked a b →
+EntryKeeps g = (a b : List ℕ) (p : ℕ) (asked : List ℕ) → IsImage g a → is_entry_page g p ≡ true → is_finished (page_of g a p) ≡ false → length asked ≡ 2 →
+    HalfProgrammed (entry_at g p) asked a b →
     (table_of g b ≡ table_of g a) × (damaged_of g b ≡ damaged_of g a)
 
 -- Programming bytes of a live data page past the end of its file, also where that is cut off, keeps the table and what is damaged.
@@ -131,4 +133,5 @@ RemovingDrops g = (a b : List ℕ) (p flags id k : ℕ) (head : List ℕ) → Is
 -- Killing a page that is not wanted, of an id in the table, keeps the table.
 abbrev pub UnwantedIsIdle : Geometry → Type 0
 UnwantedIsIdle g = (a : List ℕ) (p : ℕ) (page : List ℕ) → live_at g a p ≡ Some page → is_wanted g a p ≡ false →
-    is_some (counted (has_of g (live_at g a)) 0x7FFF (has_of g (live_at g a) (obj_id page % 0x8000))) ≡ true → IsIdle g (own (live_at g a) (obj_id page % 0x8000)) p
+    is_some (counted (has_of g (live_at g a)) 0x7FFF (has_of g (live_at g a) (obj_id page % 0x8000))) ≡ true →
+    IsIdle g (own (live_at g a) (obj_id page % 0x8000)) p

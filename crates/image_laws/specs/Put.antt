@@ -20,7 +20,8 @@ pub record IsReadyPage (g : Geometry) (page : List ℕ) (flags : ℕ) : Type 0 w
 
 -- what one of the three programs, cut off, leaves
 abbrev pub PlacingCut : Geometry → ℕ → List ℕ → List ℕ → List ℕ → List ℕ → List ℕ → Type 0
-PlacingCut g p page a0 a1 a2 c = HalfProgrammed (entry_at g p) (take 2 page) a0 c ⊎ (HalfProgrammed (p * g.page) (take 5 page) a1 c ⊎ HalfProgrammed (p * g.page + 5) (drop 5 page) a2 c)
+PlacingCut g p page a0 a1 a2 c =
+    HalfProgrammed (entry_at g p) (take 2 page) a0 c ⊎ (HalfProgrammed (p * g.page) (take 5 page) a1 c ⊎ HalfProgrammed (p * g.page + 5) (drop 5 page) a2 c)
 
 -- a page is placed, and all else is as it was
 pub record IsPut (g : Geometry) (p : ℕ) (page : List ℕ) (flags : ℕ) (a b : List ℕ) : Type 0 where
@@ -32,5 +33,6 @@ pub record IsPut (g : Geometry) (p : ℕ) (page : List ℕ) (flags : ℕ) (a b :
   pub keeps : Keeps g a b
 
 abbrev pub PlacingIsSound : Geometry → Type 0
-PlacingIsSound g = (a0 a1 a2 a3 : List ℕ) (p : ℕ) (page : List ℕ) (flags : ℕ) → IsImage g a0 → HasMagics g a0 → IsFreePage g a0 p → IsReadyPage g page flags → Placed g p page a0 a1 a2 a3 →
+PlacingIsSound g = (a0 a1 a2 a3 : List ℕ) (p : ℕ) (page : List ℕ) (flags : ℕ) → IsImage g a0 → HasMagics g a0 → IsFreePage g a0 p → IsReadyPage g page flags →
+    Placed g p page a0 a1 a2 a3 →
     ((c : List ℕ) → PlacingCut g p page a0 a1 a2 c → Keeps g a0 c × Agree g a0 c p) × IsPut g p page flags a0 a3

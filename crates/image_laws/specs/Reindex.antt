@@ -1,5 +1,6 @@
 -- An index page is renewed: its copy names other data pages.
-use Rattle.std.specs.Prelude.{◌≡◌, ◌≢◌, ℕ, ◌+◌, ◌%◌, ◌<◌, List, [], true, ◌==◌, Option, Some, Ok, is_some, unwrap_or, take, slice_index, slice_range, if◌then◌else◌}
+use Rattle.std.specs.Prelude.{◌≡◌, ◌≢◌, ℕ, ◌+◌, ◌%◌, ◌<◌, List, [], true, ◌==◌, Option, Some, Ok, is_some, unwrap_or, take, slice_index, slice_range}
+use Rattle.std.specs.Prelude.{if◌then◌else◌}
 use Rattle.std.specs.List.{range_with_len, flat_map}
 use Rattle.geometry.specs.declared.geometry.Geometry.{Geometry}
 use Rattle.table_model.specs.Room.{data_pages}
@@ -18,7 +19,8 @@ unfoldable pub now_data : Geometry → Live → List ℕ → List ℕ → ℕ �
 now_data g pages head new t = if index_span g t == span_of new then data_of (pages (slot_word g new t)) t else data_page g pages head t
 
 unfoldable pub now_bytes : Geometry → Live → List ℕ → List ℕ → List ℕ
-now_bytes g pages head new = take (size_of head) (flat_map (λ t. slice_range (unwrap_or (now_data g pages head new t) []) 5 g.page) (range_with_len 0 (data_pages g (size_of head))))
+now_bytes g pages head new =
+    take (size_of head) (flat_map (λ t. slice_range (unwrap_or (now_data g pages head new t) []) 5 g.page) (range_with_len 0 (data_pages g (size_of head))))
 
 -- Among these pages of an id index page w is the one of its span. With the new page in its place each span of data has its page.
 pub record Reindexes (g : Geometry) (pages : Live) (id w h : ℕ) (old new head head' : List ℕ) (f0 f : File) : Type 0 where

@@ -25,7 +25,8 @@ pub record Removes (g : Geometry) (a : List ℕ) (p flags id k : ℕ) (head : Li
 
 -- Cut off or done, that program leaves the image sound and undamaged, with its free blocks.
 abbrev pub RemovingIsSound : Geometry → Type 0
-RemovingIsSound g = (a b : List ℕ) (p flags id k : ℕ) (head : List ℕ) → Removes g a p flags id k head → HasMagics g a → HalfProgrammed (p * g.page + 4) (flags ∷ []) a b →
+RemovingIsSound g = (a b : List ℕ) (p flags id k : ℕ) (head : List ℕ) → Removes g a p flags id k head → HasMagics g a →
+    HalfProgrammed (p * g.page + 4) (flags ∷ []) a b →
     IsSound g b a × (damaged_of g b ≡ []) × (free_blocks g a ≤ free_blocks g b)
 
 -- tidy but for the spare pages, those of them that are live belonging to ids without a header page
@@ -43,20 +44,24 @@ pub record Removed (g : Geometry) (p id : ℕ) (a b : List ℕ) : Type 0 where
   pub used : is_free_entry g b p ≡ false
 
 abbrev pub RemovingLeaves : Geometry → Type 0
-RemovingLeaves g = (a b : List ℕ) (p flags id k : ℕ) (head : List ℕ) → Removes g a p flags id k head → IsTidy g a → Programmed (p * g.page + 4) (flags ∷ []) a b → Removed g p id a b
+RemovingLeaves g = (a b : List ℕ) (p flags id k : ℕ) (head : List ℕ) → Removes g a p flags id k head → IsTidy g a →
+    Programmed (p * g.page + 4) (flags ∷ []) a b → Removed g p id a b
 
 -- Killing a spare page keeps table and free blocks at each cut, and leaves the others: a live one,
 abbrev pub OrphanKills : Geometry → Type 0
-OrphanKills g = (a b d : List ℕ) (r kill : ℕ) (x : List ℕ) (spare : ℕ → Bool) → IsImage g a → HasMagics g a → Orphans g spare a → spare r ≡ true → live_at g a r ≡ Some x →
+OrphanKills g = (a b d : List ℕ) (r kill : ℕ) (x : List ℕ) (spare : ℕ → Bool) → IsImage g a → HasMagics g a → Orphans g spare a → spare r ≡ true →
+    live_at g a r ≡ Some x →
     ClearsBit 7 (slice_index a (r * g.page + 4)) kill → Kills g r kill a b d →
-    ((c : List ℕ) → KillCut g r kill a b c → Keeps g a c × (free_blocks g a ≤ free_blocks g c)) × IsImage g d × Keeps g a d × Orphans g (λ q. spare q && not (q == r)) d
+    ((c : List ℕ) → KillCut g r kill a b c → Keeps g a c × (free_blocks g a ≤ free_blocks g c)) × IsImage g d × Keeps g a d
+    × Orphans g (λ q. spare q && not (q == r)) d
 
 -- or one that isn't live, as the header page is then.
 abbrev pub DeadKills : Geometry → Type 0
 DeadKills g = (a b d : List ℕ) (r kill : ℕ) (spare : ℕ → Bool) → IsImage g a → HasMagics g a → Orphans g spare a → spare r ≡ true → is_entry_page g r ≡ true →
     live_at g a r ≡ None → is_free_entry g a r ≡ false →
     Deletes (slice_index a (r * g.page + 4)) kill → Kills g r kill a b d →
-    ((c : List ℕ) → KillCut g r kill a b c → Keeps g a c × (free_blocks g a ≤ free_blocks g c)) × IsImage g d × Keeps g a d × Orphans g (λ q. spare q && not (q == r)) d
+    ((c : List ℕ) → KillCut g r kill a b c → Keeps g a c × (free_blocks g a ≤ free_blocks g c)) × IsImage g d × Keeps g a d
+    × Orphans g (λ q. spare q && not (q == r)) d
 
 -- With none left the image is tidy.
 abbrev pub OrphansEnd : Geometry → Type 0

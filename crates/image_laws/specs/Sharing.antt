@@ -49,11 +49,13 @@ PutIsCopying g = (a c : List ℕ) (p : ℕ) (page : List ℕ) → names_index pa
 
 -- and in the kill of the old page after it.
 abbrev pub KillIsCopying : Geometry → Type 0
-KillIsCopying g = (a b c : List ℕ) (p o : ℕ) (page old : List ℕ) → names_index page ≡ true → live_at g a o ≡ Some old → PutDone g p page a b → KillLeaves g o b c → IsCopying g p a c
+KillIsCopying g = (a b c : List ℕ) (p o : ℕ) (page old : List ℕ) → names_index page ≡ true → live_at g a o ≡ Some old → PutDone g p page a b →
+    KillLeaves g o b c → IsCopying g p a c
 
 -- In a neat image, to a free page of a block without data pages, which is free only where three blocks are, that costs one of the entries to spare
 -- at most, and two free blocks stay.
 abbrev pub CopyingFits : Geometry → Type 0
-CopyingFits g = (was now : List ℕ) (p : ℕ) → IsNeat g was → is_entry_page g p ≡ true → is_free_entry g was p ≡ true → is_data_block g was (block_of g p) ≡ false →
+CopyingFits g = (was now : List ℕ) (p : ℕ) → IsNeat g was → is_entry_page g p ≡ true → is_free_entry g was p ≡ true →
+    is_data_block g was (block_of g p) ≡ false →
     (is_free_block g was (block_of g p) ≡ true → 2 < free_blocks g was) → IsCopying g p was now →
     ((spare : ℕ) → FitsWith g was (spare + 1) → FitsWith g now spare) × (HasReserve g was → HasReserve g now)

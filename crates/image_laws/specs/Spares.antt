@@ -25,9 +25,11 @@ pub record Spares (g : Geometry) (spare : ℕ → Bool) (a : List ℕ) : Type 0 
 
 -- Killing one of them keeps table and free blocks at each cut, and leaves the others.
 abbrev pub SpareKills : Geometry → Type 0
-SpareKills g = (a b d : List ℕ) (r kill : ℕ) (x : List ℕ) (spare : ℕ → Bool) → IsImage g a → HasMagics g a → Spares g spare a → spare r ≡ true → live_at g a r ≡ Some x →
+SpareKills g = (a b d : List ℕ) (r kill : ℕ) (x : List ℕ) (spare : ℕ → Bool) → IsImage g a → HasMagics g a → Spares g spare a → spare r ≡ true →
+    live_at g a r ≡ Some x →
     ClearsBit 7 (slice_index a (r * g.page + 4)) kill → Kills g r kill a b d →
-    ((c : List ℕ) → KillCut g r kill a b c → Keeps g a c × (free_blocks g a ≤ free_blocks g c)) × IsImage g d × Keeps g a d × Spares g (λ q. spare q && not (q == r)) d
+    ((c : List ℕ) → KillCut g r kill a b c → Keeps g a c × (free_blocks g a ≤ free_blocks g c)) × IsImage g d × Keeps g a d
+    × Spares g (λ q. spare q && not (q == r)) d
 
 -- With none left the image is tidy.
 abbrev pub SparesEnd : Geometry → Type 0

@@ -39,7 +39,8 @@ abbrev pub TidyIsTidy : Geometry → Type 0
 TidyIsTidy g = (a : List ℕ) (spare : ℕ → Bool) → (IsTidy g a → IsTidyBut g a spare) × (((p : ℕ) → spare p ≡ true → ⊥) → IsTidyBut g a spare → IsTidy g a)
 
 abbrev pub PlacingEntryTidy : Geometry → Type 0
-PlacingEntryTidy g = (a b : List ℕ) (p : ℕ) (asked : List ℕ) (spare : ℕ → Bool) → IsImage g a → IsTidyBut g a spare → spare p ≡ true → IsUnfinished g a p → length asked ≡ 2 →
+PlacingEntryTidy g = (a b : List ℕ) (p : ℕ) (asked : List ℕ) (spare : ℕ → Bool) → IsImage g a → IsTidyBut g a spare → spare p ≡ true →
+    IsUnfinished g a p → length asked ≡ 2 →
     HalfProgrammed (entry_at g p) asked a b → IsTidyBut g b spare
 
 abbrev pub PlacingPageTidy : Geometry → Type 0
@@ -49,18 +50,22 @@ PlacingPageTidy g = (a b : List ℕ) (p at : ℕ) (asked : List ℕ) (spare : �
 
 -- finishing the header page of a new id: it is wanted then
 abbrev pub FinishingTidies : Geometry → Type 0
-FinishingTidies g = (a b : List ℕ) (p flags id : ℕ) (f : File) (spare later : ℕ → Bool) → Leaves p spare later → IsImage g a → IsTidyBut g a spare → IsPlaced g a p flags →
-    LeadsTo g a id (slice_set (page_of g a p) 4 flags) f → index_page g (own (live_at g a) id) 0 ≡ None → IsOfKind g (live_at g a) p (slice_set (page_of g a p) 4 flags) →
+FinishingTidies g = (a b : List ℕ) (p flags id : ℕ) (f : File) (spare later : ℕ → Bool) → Leaves p spare later → IsImage g a →
+    IsTidyBut g a spare → IsPlaced g a p flags →
+    LeadsTo g a id (slice_set (page_of g a p) 4 flags) f → index_page g (own (live_at g a) id) 0 ≡ None →
+    IsOfKind g (live_at g a) p (slice_set (page_of g a p) 4 flags) →
     Programmed (p * g.page + 4) (flags ∷ []) a b → slice_index b (p * g.page + 4) ≡ flags → IsTidyBut g b later
 
 -- killing an idle page: the flags byte, also where it is cut off, leaves the others as they are
 abbrev pub KillingTidy : Geometry → Type 0
-KillingTidy g = (a b : List ℕ) (p flags : ℕ) (page : List ℕ) (spare : ℕ → Bool) → IsImage g a → IsTidyBut g a spare → spare p ≡ true → live_at g a p ≡ Some page → ClearsBit 7 (slice_index a (p * g.page + 4)) flags →
+KillingTidy g = (a b : List ℕ) (p flags : ℕ) (page : List ℕ) (spare : ℕ → Bool) → IsImage g a → IsTidyBut g a spare → spare p ≡ true →
+    live_at g a p ≡ Some page → ClearsBit 7 (slice_index a (p * g.page + 4)) flags →
     IsIdle g (own (live_at g a) (obj_id page % 0x8000)) p → HalfProgrammed (p * g.page + 4) (flags ∷ []) a b → IsTidyBut g b spare
 
 -- then the entry: cut off it leaves the others, and done the page is no spare one any more
 abbrev pub KilledTidies : Geometry → Type 0
-KilledTidies g = (a b : List ℕ) (p : ℕ) (spare later : ℕ → Bool) → Leaves p spare later → IsImage g a → IsTidyBut g a spare → spare p ≡ true → is_entry_page g p ≡ true → is_finished (page_of g a p) ≡ false →
+KilledTidies g = (a b : List ℕ) (p : ℕ) (spare later : ℕ → Bool) → Leaves p spare later → IsImage g a → IsTidyBut g a spare → spare p ≡ true →
+    is_entry_page g p ≡ true → is_finished (page_of g a p) ≡ false →
     (HalfProgrammed (entry_at g p) (0 ∷ 0 ∷ []) a b → IsTidyBut g b spare) × (Programmed (entry_at g p) (0 ∷ 0 ∷ []) a b → IsTidyBut g b later)
 
 -- Two images agree but for page p and its entry, as before and after any programs of these, done or cut off.

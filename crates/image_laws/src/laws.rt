@@ -1,5 +1,6 @@
 ghost use Rattle.geometry.specs.declared.geometry.Geometry.{Geometry};
-ghost use Rattle.image_laws.specs.Programs.{PlacingEntryKeeps, PlacingPageKeeps, FinishingPublishes, KillingKeeps, EntryKeeps, KillingRetires, AppendingKeeps, BlockKeeps, SpoiledIsDead, RemovingDrops, UnwantedIsIdle};
+ghost use Rattle.image_laws.specs.Programs.{PlacingEntryKeeps, PlacingPageKeeps, FinishingPublishes, KillingKeeps, EntryKeeps, KillingRetires, AppendingKeeps};
+ghost use Rattle.image_laws.specs.Programs.{BlockKeeps, SpoiledIsDead, RemovingDrops, UnwantedIsIdle};
 
 /// Placing a page keeps the table, also where it is cut off.
 pub fn placing_keeps()

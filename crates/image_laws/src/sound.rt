@@ -1,5 +1,6 @@
 ghost use Rattle.geometry.specs.declared.geometry.Geometry.{Geometry};
-ghost use Rattle.image_laws.specs.SoundSteps.{KeepsItself, KeepsOn, PlacingEntryIsSound, PlacingPageIsSound, FinishingIsSound, RetiringIsSound, KillingIsSound, ErasingIsSound};
+ghost use Rattle.image_laws.specs.SoundSteps.{KeepsItself, KeepsOn, PlacingEntryIsSound, PlacingPageIsSound, FinishingIsSound, RetiringIsSound, KillingIsSound};
+ghost use Rattle.image_laws.specs.SoundSteps.{ErasingIsSound};
 
 /// What keeps an image may be done again and again.
 pub fn keeping_composes()

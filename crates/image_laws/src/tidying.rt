@@ -1,5 +1,6 @@
 ghost use Rattle.geometry.specs.declared.geometry.Geometry.{Geometry};
-ghost use Rattle.image_laws.specs.TidySteps.{TidyIsTidy, PlacingEntryTidy, PlacingPageTidy, FinishingTidies, KillingTidy, KilledTidies, FreeBlocksFall, UsedIsNotFree, LiveIsUsed, ProgramsAgree};
+ghost use Rattle.image_laws.specs.TidySteps.{TidyIsTidy, PlacingEntryTidy, PlacingPageTidy, FinishingTidies, KillingTidy, KilledTidies, FreeBlocksFall};
+ghost use Rattle.image_laws.specs.TidySteps.{UsedIsNotFree, LiveIsUsed, ProgramsAgree};
 
 /// Each program of a step leaves tidy what it does not touch; finished and killed pages are tidy.
 pub fn steps_tidy()

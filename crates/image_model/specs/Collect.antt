@@ -1,5 +1,6 @@
 -- Which blocks garbage collection cleans, and when it may stop.
-use Rattle.std.specs.Prelude.{◌≡◌, ℕ, ◌+◌, ◌-◌, ◌*◌, ◌%◌, ◌≤◌, List, length, Bool, true, not, nat_lt, nat_le, ◌==◌, ◌&&◌, ◌||◌, Option, Some, is_none, if◌then◌else◌, filter, find, sum_by, ℤ, pos, ◌-ℤ◌, int_le}
+use Rattle.std.specs.Prelude.{◌≡◌, ℕ, ◌+◌, ◌-◌, ◌*◌, ◌%◌, ◌≤◌, List, length, Bool, true, not, nat_lt, nat_le, ◌==◌, ◌&&◌, ◌||◌, Option, Some, is_none}
+use Rattle.std.specs.Prelude.{if◌then◌else◌, filter, find, sum_by, ℤ, pos, ◌-ℤ◌, int_le}
 use Rattle.std.specs.List.{range_with_len, list_any, list_all}
 use Rattle.geometry.specs.declared.geometry.Geometry.{Geometry}
 use Rattle.geometry.specs.Numbers.{ceil, per_block, lookups, entries}

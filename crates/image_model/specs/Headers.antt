@@ -1,5 +1,6 @@
 -- The fields of a page, read from its bytes alone.
-use Rattle.std.specs.Prelude.{ℕ, ◌+◌, ◌*◌, ◌/◌, ◌%◌, ◌^◌, List, Bool, not, nat_lt, ◌==◌, ◌&&◌, ◌||◌, Option, Some, None, if◌then◌else◌, position, take, option_and_then, slice_index, slice_range}
+use Rattle.std.specs.Prelude.{ℕ, ◌+◌, ◌*◌, ◌/◌, ◌%◌, ◌^◌, List, Bool, not, nat_lt, ◌==◌, ◌&&◌, ◌||◌, Option, Some, None, if◌then◌else◌, position, take}
+use Rattle.std.specs.Prelude.{option_and_then, slice_index, slice_range}
 use Rattle.nor_core.specs.Flash.{word_at}
 
 -- the object id, with bit 15 set in index pages (SPIFFS page header)

@@ -1,5 +1,6 @@
 -- Blocks that hold wanted pages of both kinds, and whether a check can part them.
-use Rattle.std.specs.Prelude.{◌≡◌, ℕ, ◌<◌, ◌≤◌, ◌⊎◌, true, false, ◌+◌, ◌-◌, ◌*◌, List, length, Bool, not, nat_le, ◌==◌, ◌&&◌, ◌||◌, if◌then◌else◌, filter, sum_by}
+use Rattle.std.specs.Prelude.{◌≡◌, ℕ, ◌<◌, ◌≤◌, ◌⊎◌, true, false, ◌+◌, ◌-◌, ◌*◌, List, length, Bool, not, nat_le, ◌==◌, ◌&&◌, ◌||◌, if◌then◌else◌, filter}
+use Rattle.std.specs.Prelude.{sum_by}
 use Rattle.std.specs.List.{range_with_len}
 use Rattle.geometry.specs.declared.geometry.Geometry.{Geometry}
 use Rattle.geometry.specs.Numbers.{entries}

@@ -1,5 +1,6 @@
 -- Wanted pages, free blocks, and tidy images.
-use Rattle.std.specs.Prelude.{◌≡◌, ℕ, ◌+◌, ◌*◌, ◌%◌, ◌<◌, ◌≤◌, ◌⊎◌, List, [], length, Bool, true, false, ◌==◌, ◌&&◌, ◌||◌, Option, Some, None, is_some, option_and_then, filter, nat_le}
+use Rattle.std.specs.Prelude.{◌≡◌, ℕ, ◌+◌, ◌*◌, ◌%◌, ◌<◌, ◌≤◌, ◌⊎◌, List, [], length, Bool, true, false, ◌==◌, ◌&&◌, ◌||◌, Option, Some, None, is_some}
+use Rattle.std.specs.Prelude.{option_and_then, filter, nat_le}
 use Rattle.std.specs.List.{range_with_len, list_any, list_all}
 use Rattle.geometry.specs.declared.geometry.Geometry.{Geometry}
 use Rattle.table_model.specs.Room.{data_pages, index_pages}

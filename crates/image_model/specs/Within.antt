@@ -86,7 +86,8 @@ block_entry P L c i small =
     (at, let e : P * ((c * P + L + i) / P) ≡ P * c = ap (λ (x : ℕ). P * x) at in omega arith)
 
 -- the entries of a block lie there
-pub entry_in : (g : Geometry) (c q : ℕ) → c < g.blocks → c * per_block g + lookups g ≤ q → q < c * per_block g + lookups g + entries g → (block_of g q ≡ c) × (is_entry_page g q ≡ true)
+pub entry_in : (g : Geometry) (c q : ℕ) → c < g.blocks → c * per_block g + lookups g ≤ q → q < c * per_block g + lookups g + entries g →
+    (block_of g q ≡ c) × (is_entry_page g q ≡ true)
 unfolding entries is_entry_page page_count
 entry_in g c q low from to =
     let fits : lookups g < per_block g = (sizes g).lookups_fit in
@@ -100,14 +101,16 @@ entry_in g c q low from to =
     (block, rw (lt-ltb q (g.blocks * per_block g) inside, le-ltb (q % per_block g) (lookups g) (omega arith)) refl)
 
 -- so an entry page of block c has a number of the volume, and lies behind the lookup pages
-pub entry_number_in : (g : Geometry) (c q : ℕ) → c < g.blocks → c * per_block g + lookups g ≤ q → q < c * per_block g + lookups g + entries g → (q < page_count g) × (lookups g ≤ place_of g q)
+pub entry_number_in : (g : Geometry) (c q : ℕ) → c < g.blocks → c * per_block g + lookups g ≤ q → q < c * per_block g + lookups g + entries g →
+    (q < page_count g) × (lookups g ≤ place_of g q)
 unfolding is_entry_page
 entry_number_in g c q low from to =
     let w = (entry_in g c q low from to).1 in
     (page_number g q w, behind g q w)
 
 -- each entry page of a block is one of them
-pub entry_of_block : (g : Geometry) (p : ℕ) → is_entry_page g p ≡ true → (block_of g p * per_block g + lookups g ≤ p) × (p < block_of g p * per_block g + lookups g + entries g)
+pub entry_of_block : (g : Geometry) (p : ℕ) → is_entry_page g p ≡ true →
+    (block_of g p * per_block g + lookups g ≤ p) × (p < block_of g p * per_block g + lookups g + entries g)
 unfolding entries
 entry_of_block g p page =
     let whole : per_block g * (p / per_block g) + p % per_block g ≡ p = div-add-mod p (per_block g) in

@@ -125,7 +125,8 @@ fn draw_rows<B: Board>(
     requires volume { g.now.blocks * g.now.block ≤ B.size board.old }
     requires work { 4096 ≤ length work.old }
     ensures drawn { OnOk result (Drawn B.NorState board.old board.new (flat_map (row_of style g.now (B.bytes board.old)) (range_with_len 0 g.now.blocks))) }
-    ensures stopped { OnErr result (Stopped B.NorState board.old board.new (flat_map (row_of style g.now (B.bytes board.old)) (range_with_len 0 g.now.blocks))) }
+    ensures stopped { OnErr result
+        (Stopped B.NorState board.old board.new (flat_map (row_of style g.now (B.bytes board.old)) (range_with_len 0 g.now.blocks))) }
 {
     for block in 0..g.blocks() {
         draw_row(board, style, g, block, work)?;

@@ -203,7 +203,8 @@ pub(crate) fn sign_on<N: Nor>(
     requires work { 4096 ≤ length work.old }
     ensures cause { OnErr result (Rose (N.faults nor.old) (N.faults nor.new)) }
     ensures reads { OnlyReads N.NorState nor.old nor.new }
-    ensures told { N.tells nor.old → has ≡ the_magic g.now (N.bytes nor.old) (the_block_of g.now p) → IfOk result (λ sign. sign ≡ sign_at g.now (N.bytes nor.old) p) }
+    ensures told { N.tells nor.old → has ≡ the_magic g.now (N.bytes nor.old) (the_block_of g.now p) →
+        IfOk result (λ sign. sign ≡ sign_at g.now (N.bytes nor.old) p) }
 {
     if !is_entry_page(g, p) {
         return Ok(Sign::Lookup);

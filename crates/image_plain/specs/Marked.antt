@@ -22,4 +22,5 @@ mark_after id was = if was == 0 then id else 0xFFFF
 -- at the mark of each name of a whole file of the ids from 1 to below m stands that id, or that there are several
 pub record AreMarked (has : Found) (m : ℕ) (marks : List ℕ) : Type 0 where
   pub len : length marks ≡ 0x4000
-  pub each : (j : ℕ) (name : List ℕ) → 1 ≤ j → j < m → whole_name (has j) ≡ Some name → (get_or marks (name_mark name) 0 ≡ j) ⊎ (get_or marks (name_mark name) 0 ≡ 0xFFFF)
+  pub each : (j : ℕ) (name : List ℕ) → 1 ≤ j → j < m → whole_name (has j) ≡ Some name →
+      (get_or marks (name_mark name) 0 ≡ j) ⊎ (get_or marks (name_mark name) 0 ≡ 0xFFFF)

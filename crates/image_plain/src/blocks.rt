@@ -3,8 +3,11 @@ ghost use Rattle.std.specs.Prelude.{◌≡◌, ◌==◌, ℕ, ◌+◌, ◌*◌, 
 ghost use Rattle.geometry.specs.Numbers.{page_count, per_block, lookups, entries};
 ghost use Rattle.image_model.specs.Places.{IsImage};
 ghost use Rattle.image_model.specs.Live.{live_at as the_live_at};
-ghost use Rattle.image_model.specs.Tidy.{is_erased as the_erased, is_free_entry as the_free_entry, is_free_block as the_free_block, free_blocks as the_free_blocks};
-ghost use Rattle.image_model.specs.Kinds.{is_index_page as the_index_page, is_data_page as the_data_page, is_index_block as the_index_block, is_data_block as the_data_block, is_mixed as the_mixed, mixed_blocks as the_mixed_blocks, spoiled_blocks as the_spoiled_blocks};
+ghost use Rattle.image_model.specs.Tidy.{is_erased as the_erased, is_free_entry as the_free_entry, is_free_block as the_free_block};
+ghost use Rattle.image_model.specs.Tidy.{free_blocks as the_free_blocks};
+ghost use Rattle.image_model.specs.Kinds.{is_index_page as the_index_page, is_data_page as the_data_page, is_index_block as the_index_block};
+ghost use Rattle.image_model.specs.Kinds.{is_data_block as the_data_block, is_mixed as the_mixed, mixed_blocks as the_mixed_blocks};
+ghost use Rattle.image_model.specs.Kinds.{spoiled_blocks as the_spoiled_blocks};
 
 use crate::pages::{entry_of, has_magic, live_at, page_of, word};
 use geometry::Geometry;

@@ -3,7 +3,8 @@ ghost use Rattle.std.specs.Prelude.{◌≡◌, ◌==◌, ℕ, ◌+◌, ◌<◌, 
 ghost use Rattle.std.specs.Option.{option_map};
 ghost use Rattle.image_model.specs.Places.{IsImage};
 ghost use Rattle.image_model.specs.Live.{live_at as the_live_at};
-ghost use Rattle.image_model.specs.Tables.{has_of as the_has, is_named as the_named, holder as the_holder, damage as the_damage, damages as the_damages, damaged_of as the_damaged};
+ghost use Rattle.image_model.specs.Tables.{has_of as the_has, is_named as the_named, holder as the_holder, damage as the_damage, damages as the_damages};
+ghost use Rattle.image_model.specs.Tables.{damaged_of as the_damaged};
 ghost use Rattle.image_plain.specs.Seen.{file};
 ghost use Rattle.image_plain.specs.Headed.{IsHeads};
 ghost use Rattle.image_plain.specs.Leading.{AreFiles};

@@ -1,5 +1,6 @@
 // The header pages of an image, by id.
-ghost use Rattle.std.specs.Prelude.{◌≡◌, ◌==◌, ◌&&◌, ℕ, ◌+◌, ◌*◌, ◌%◌, ◌<◌, ◌≤◌, length, get_or, replicate, List, Option, Some, None, IfOk, IfSome, if◌then◌else◌};
+ghost use Rattle.std.specs.Prelude.{◌≡◌, ◌==◌, ◌&&◌, ℕ, ◌+◌, ◌*◌, ◌%◌, ◌<◌, ◌≤◌, length, get_or, replicate, List, Option, Some, None, IfOk, IfSome};
+ghost use Rattle.std.specs.Prelude.{if◌then◌else◌};
 ghost use Rattle.image_model.specs.Places.{IsImage};
 ghost use Rattle.image_model.specs.Live.{live_at as the_live_at, own as the_own};
 ghost use Rattle.image_model.specs.Files.{is_index};
@@ -38,7 +39,8 @@ fn note_header(heads: &mut Vec<Option<u32>>, g: &Geometry, image: &[u8], p: u32)
     requires image { IsImage g.now image.now }
     requires len { length heads.old.items ≡ 0x8000 }
     ensures len { length heads.new.items ≡ 0x8000 }
-    ensures each { (id : ℕ) → id < 0x8000 → get_or heads.new.items id None ≡ (if is_index (the_own (the_live_at g.now image.now) id p) 0 then Some p else get_or heads.old.items id None) }
+    ensures each { (id : ℕ) → id < 0x8000 →
+        get_or heads.new.items id None ≡ (if is_index (the_own (the_live_at g.now image.now) id p) 0 then Some p else get_or heads.old.items id None) }
 {
     match header_id(g, image, p) {
         Some(id) => heads[id as usize] = Some(p),

@@ -52,7 +52,8 @@ fn whole_name<'a>(g: &Geometry, image: &'a [u8], files: &[Option<u32>], id: u16)
 fn note_name(marks: &mut Vec<u16>, name: &[u8], id: u16)
     requires { length marks.old.items ≡ 0x4000 }
     ensures len { length marks.new.items ≡ 0x4000 }
-    ensures each { (k : ℕ) → get_or marks.new.items k 0 ≡ (if the_mark name.now == k then mark_after id (get_or marks.old.items k 0) else get_or marks.old.items k 0) }
+    ensures each { (k : ℕ) →
+        get_or marks.new.items k 0 ≡ (if the_mark name.now == k then mark_after id (get_or marks.old.items k 0) else get_or marks.old.items k 0) }
 {
     let mark = name_mark(name);
     marks[mark] = if marks[mark] == NONE { id } else { SEVERAL };

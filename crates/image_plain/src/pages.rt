@@ -1,7 +1,8 @@
 // Pages, lookup entries, magics and erase counts of an image, and its live pages.
 ghost use Rattle.std.specs.Prelude.{◌≡◌, ◌==◌, ℕ, ◌+◌, ◌*◌, ◌/◌, ◌%◌, ◌^◌, ◌<◌, ◌≤◌, length, option_copied, IfSome, IsTrue, ◌↔◌};
 ghost use Rattle.geometry.specs.Numbers.{page_count, per_block, lookups, slots};
-ghost use Rattle.image_model.specs.Places.{IsImage, page_of as the_page, slot_of as the_slot, has_magic as the_magic, erase_count as the_count, entry_of as the_entry};
+ghost use Rattle.image_model.specs.Places.{IsImage, page_of as the_page, slot_of as the_slot, has_magic as the_magic, erase_count as the_count};
+ghost use Rattle.image_model.specs.Places.{entry_of as the_entry};
 ghost use Rattle.image_model.specs.Headers.{is_finished as the_finished};
 ghost use Rattle.nor_core.specs.Flash.{word_at};
 ghost use Rattle.image_model.specs.Live.{is_live as the_live, live_at as the_live_at, own as the_own};

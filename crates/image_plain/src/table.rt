@@ -3,7 +3,8 @@ ghost use Rattle.std.specs.Prelude.{◌≡◌, ◌==◌, ℕ, ◌+◌, ◌<◌, 
 ghost use Rattle.std.specs.Option.{option_map};
 ghost use Rattle.image_model.specs.Places.{IsImage};
 ghost use Rattle.image_model.specs.Live.{live_at as the_live_at};
-ghost use Rattle.image_model.specs.Tables.{has_of as the_has, is_before as the_before, counts as the_counts, counted as the_counted, records as the_records, table_of as the_table};
+ghost use Rattle.image_model.specs.Tables.{has_of as the_has, is_before as the_before, counts as the_counts, counted as the_counted, records as the_records};
+ghost use Rattle.image_model.specs.Tables.{table_of as the_table};
 ghost use Rattle.image_plain.specs.Seen.{seen_at, file};
 ghost use Rattle.image_plain.specs.Headed.{IsHeads};
 ghost use Rattle.image_plain.specs.Leading.{AreFiles, earlier as the_earlier};
@@ -98,7 +99,8 @@ pub(crate) fn counted(
     requires marks { AreMarked (the_has g.now (the_live_at g.now image.now)) (n + 1) marks.now }
     requires fits { n ≤ 0x7FFF }
     requires id { id < 0x8000 }
-    ensures { IfOk result (λ r. option_map file r ≡ the_counted (the_has g.now (the_live_at g.now image.now)) n (the_has g.now (the_live_at g.now image.now) id)) }
+    ensures { IfOk result
+        (λ r. option_map file r ≡ the_counted (the_has g.now (the_live_at g.now image.now)) n (the_has g.now (the_live_at g.now image.now) id)) }
 {
     match found(alloc, g, image, heads, id)? {
         Some((p, Ok(r))) => {

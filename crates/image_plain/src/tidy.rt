@@ -87,7 +87,8 @@ fn is_data(g: &Geometry, image: &[u8], id: u16, span: u32, p: u32) -> bool
 fn serves_data(g: &Geometry, image: &[u8], id: u16, head: &[u8], n: u32, p: u32) -> bool
     requires image { IsImage g.now image.now }
     requires head { length head.now ≡ g.now.page }
-    ensures { result ≡ list_any (λ span. is_number (the_entry_number g.now (the_own (the_live_at g.now image.now) id) head.now span) p && is_some (data_of (the_own (the_live_at g.now image.now) id p) span)) (range_with_len 0 n) }
+    ensures { result ≡ list_any (λ span. is_number (the_entry_number g.now (the_own (the_live_at g.now image.now) id) head.now span) p
+        && is_some (data_of (the_own (the_live_at g.now image.now) id p) span)) (range_with_len 0 n) }
 {
     for span in 0..n {
         if is_data(g, image, id, span, p) && entry_number(g, image, id, head, span) == Some(p) {

@@ -40,7 +40,8 @@ pub record ExtractsLines {D X : Type 0} (nor : NorOf D) (folder : FolderOf X) (t
 
 -- How saying a text and putting the files of a table ended: with an answer of which P holds all was done; a fault of the board
 -- leaves a front of the text, and one of the folder whole lines; there is no other error.
-abbrev pub ExtractsTo : {D X T : Type 0} → NorOf D → FolderOf X → (text : List ℕ) → (table : List File) → (old new : D) → (was now : X) → (T → Type 0) → Result T ExtractErr → Type 0
+abbrev pub ExtractsTo : {D X T : Type 0} → NorOf D → FolderOf X → (text : List ℕ) → (table : List File) → (old new : D) → (was now : X) → (T → Type 0) →
+    Result T ExtractErr → Type 0
 ExtractsTo nor folder text table old new was now P (Ok answer) = ExtractsAll nor folder text table old new was now × P answer
 ExtractsTo nor folder text table old new was now P (Err BoardFault) = ExtractsFront nor folder text table old new was now
 ExtractsTo nor folder text table old new was now P (Err FolderFault) = ExtractsLines nor folder text table old new was now

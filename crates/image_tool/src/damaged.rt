@@ -50,8 +50,10 @@ pub(crate) fn say_next_damaged<B: Board>(
     ensures above { IfOk result (λ found. IfSome found (λ id. after < id)) }
     ensures says { OnlySays B.NorState v.old.nor.now v.new.nor.now (next_damage v.old.geometry (B.bytes v.old.nor.now) after) }
     ensures found { B.tells v.old.nor.now → IfOk result (λ found. found ≡ option_map (λ d. d.0) (damaged_above v.old.geometry (B.bytes v.old.nor.now) after)) }
-    ensures whole { B.tells v.old.nor.now → OnOk result (B.said v.new.nor.now ≡ B.said v.old.nor.now ++ next_damage v.old.geometry (B.bytes v.old.nor.now) after) }
-    ensures front { B.tells v.old.nor.now → OnErr result (SaysFront B.NorState v.old.nor.now v.new.nor.now (next_damage v.old.geometry (B.bytes v.old.nor.now) after)) }
+    ensures whole { B.tells v.old.nor.now →
+        OnOk result (B.said v.new.nor.now ≡ B.said v.old.nor.now ++ next_damage v.old.geometry (B.bytes v.old.nor.now) after) }
+    ensures front { B.tells v.old.nor.now →
+        OnErr result (SaysFront B.NorState v.old.nor.now v.new.nor.now (next_damage v.old.geometry (B.bytes v.old.nor.now) after)) }
 {
     let Some((id, cause)) = next_damaged(v, marks, after)? else {
         return Ok(None);

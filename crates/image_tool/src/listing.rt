@@ -41,9 +41,12 @@ fn say_next<B: Board>(
     ensures same { IsSameView v.old v.new }
     ensures above { IfOk result (λ found. IfSome found (λ id. after < id)) }
     ensures says { OnlySays B.NorState v.old.nor.now v.new.nor.now (next_line part v.old.geometry (B.bytes v.old.nor.now) after) }
-    ensures found { B.tells v.old.nor.now → IfOk result (λ found. found ≡ option_map (λ l. l.0) (line_above part v.old.geometry (B.bytes v.old.nor.now) after)) }
-    ensures whole { B.tells v.old.nor.now → OnOk result (B.said v.new.nor.now ≡ B.said v.old.nor.now ++ next_line part v.old.geometry (B.bytes v.old.nor.now) after) }
-    ensures front { B.tells v.old.nor.now → OnErr result (SaysFront B.NorState v.old.nor.now v.new.nor.now (next_line part v.old.geometry (B.bytes v.old.nor.now) after)) }
+    ensures found { B.tells v.old.nor.now →
+        IfOk result (λ found. found ≡ option_map (λ l. l.0) (line_above part v.old.geometry (B.bytes v.old.nor.now) after)) }
+    ensures whole { B.tells v.old.nor.now →
+        OnOk result (B.said v.new.nor.now ≡ B.said v.old.nor.now ++ next_line part v.old.geometry (B.bytes v.old.nor.now) after) }
+    ensures front { B.tells v.old.nor.now →
+        OnErr result (SaysFront B.NorState v.old.nor.now v.new.nor.now (next_line part v.old.geometry (B.bytes v.old.nor.now) after)) }
 {
     match part {
         Part::Files => match say_next_record(v, marks, after, line)? {
@@ -70,7 +73,8 @@ pub(crate) fn list_part<B: Board>(
     ensures says { OnlySays B.NorState v.old.nor.now v.new.nor.now (text_of part v.old.geometry (B.bytes v.old.nor.now)) }
     ensures count { B.tells v.old.nor.now → IfOk result (λ count. count ≡ length (lines_of part v.old.geometry (B.bytes v.old.nor.now))) }
     ensures whole { B.tells v.old.nor.now → OnOk result (B.said v.new.nor.now ≡ B.said v.old.nor.now ++ text_of part v.old.geometry (B.bytes v.old.nor.now)) }
-    ensures front { B.tells v.old.nor.now → OnErr result (SaysFront B.NorState v.old.nor.now v.new.nor.now (text_of part v.old.geometry (B.bytes v.old.nor.now))) }
+    ensures front { B.tells v.old.nor.now →
+        OnErr result (SaysFront B.NorState v.old.nor.now v.new.nor.now (text_of part v.old.geometry (B.bytes v.old.nor.now))) }
 {
     let mut after = 0;
     let mut count = 0;

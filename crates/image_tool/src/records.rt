@@ -70,8 +70,10 @@ pub(crate) fn say_next_record<B: Board>(
     ensures above { IfOk result (λ found. IfSome found (λ next. after < next.1.id)) }
     ensures says { OnlySays B.NorState v.old.nor.now v.new.nor.now (the_next_record v.old.geometry (B.bytes v.old.nor.now) after) }
     ensures found { B.tells v.old.nor.now → IfOk result (λ found. NextRecord v.old.geometry (B.bytes v.old.nor.now) after found) }
-    ensures whole { B.tells v.old.nor.now → OnOk result (B.said v.new.nor.now ≡ B.said v.old.nor.now ++ the_next_record v.old.geometry (B.bytes v.old.nor.now) after) }
-    ensures front { B.tells v.old.nor.now → OnErr result (SaysFront B.NorState v.old.nor.now v.new.nor.now (the_next_record v.old.geometry (B.bytes v.old.nor.now) after)) }
+    ensures whole { B.tells v.old.nor.now →
+        OnOk result (B.said v.new.nor.now ≡ B.said v.old.nor.now ++ the_next_record v.old.geometry (B.bytes v.old.nor.now) after) }
+    ensures front { B.tells v.old.nor.now →
+        OnErr result (SaysFront B.NorState v.old.nor.now v.new.nor.now (the_next_record v.old.geometry (B.bytes v.old.nor.now) after)) }
 {
     let Some((header, stat)) = next_record(v, marks, after)? else {
         return Ok(None);

@@ -25,7 +25,8 @@ fn index_for<N: Nor>(
     ensures cause { OnErr result (Rose (N.faults v.old.nor.now) (N.faults v.new.nor.now)) }
     ensures looks { OnlyLooks v.old v.new }
     ensures inside { IfOk result (λ page. IfSome page (λ p. p < page_count v.old.geometry)) }
-    ensures told { N.tells v.old.nor.now → index_page v.old.geometry (own (live_at v.old.geometry (N.bytes v.old.nor.now)) id) 0 ≡ Some header → IfOk result (λ page. page ≡ index_page v.old.geometry (own (live_at v.old.geometry (N.bytes v.old.nor.now)) id) (index_span v.old.geometry span)) }
+    ensures told { N.tells v.old.nor.now → index_page v.old.geometry (own (live_at v.old.geometry (N.bytes v.old.nor.now)) id) 0 ≡ Some header →
+        IfOk result (λ page. page ≡ index_page v.old.geometry (own (live_at v.old.geometry (N.bytes v.old.nor.now)) id) (index_span v.old.geometry span)) }
 {
     let which = wide_index_span(&v.geometry, span);
     if which == 0 {

@@ -33,7 +33,8 @@ fn read_piece<N: Nor>(
     ensures once { N.device_reads v.new.nor.now ≤ N.device_reads v.old.nor.now + 1 }
     ensures missing { IfErr result (IsMissing map.id) }
     ensures to { IfOk result (ReadsTo v.old.geometry at (length into.old) done) }
-    ensures told { N.tells v.old.nor.now → (f : File) → IsMapOf v.old.geometry (N.bytes v.old.nor.now) map numbers.now → Reading v.old.geometry (N.bytes v.old.nor.now) map.id f at done into.old →
+    ensures told { N.tells v.old.nor.now → (f : File) → IsMapOf v.old.geometry (N.bytes v.old.nor.now) map numbers.now →
+        Reading v.old.geometry (N.bytes v.old.nor.now) map.id f at done into.old →
         HoldsOrFault result (λ n. Reading v.old.geometry (N.bytes v.old.nor.now) map.id f at n into.new) }
 {
     let body = v.geometry.body();
@@ -70,7 +71,8 @@ fn read_covered<N: Nor>(
     ensures looks { OnlyLooks v.old v.new }
     ensures few { N.device_reads v.new.nor.now ≤ N.device_reads v.old.nor.now + pages_met (body v.old.geometry) at (length into.old) }
     ensures missing { IfErr result (IsMissing map.id) }
-    ensures told { N.tells v.old.nor.now → (f : File) → IsMapOf v.old.geometry (N.bytes v.old.nor.now) map numbers.now → IsFileOf v.old.geometry (N.bytes v.old.nor.now) map.id f → at + length into.old ≤ length f.bytes →
+    ensures told { N.tells v.old.nor.now → (f : File) → IsMapOf v.old.geometry (N.bytes v.old.nor.now) map numbers.now →
+        IsFileOf v.old.geometry (N.bytes v.old.nor.now) map.id f → at + length into.old ≤ length f.bytes →
         HoldsOrFault result (λ done. into.new ≡ bytes_at (length into.old) at f) }
 {
     let mut done = 0;
@@ -97,7 +99,8 @@ pub fn read_mapped<N: Nor>(
     ensures few { N.device_reads v.new.nor.now ≤ N.device_reads v.old.nor.now + pages_met (body v.old.geometry) at (given map.size at (length into.old)) }
     ensures missing { IfErr result (IsMissing map.id) }
     ensures count { IfOk result (λ n. n ≡ given map.size at (length into.old)) }
-    ensures told { N.tells v.old.nor.now → (f : File) → IsMapOf v.old.geometry (N.bytes v.old.nor.now) map numbers.now → IsFileOf v.old.geometry (N.bytes v.old.nor.now) map.id f → HoldsOrFault result (λ n. IsRead f at into.old into.new n) }
+    ensures told { N.tells v.old.nor.now → (f : File) → IsMapOf v.old.geometry (N.bytes v.old.nor.now) map numbers.now →
+        IsFileOf v.old.geometry (N.bytes v.old.nor.now) map.id f → HoldsOrFault result (λ n. IsRead f at into.old into.new n) }
 {
     let count = map.given(at, into.len());
     if count == 0 {

@@ -4,7 +4,8 @@ ghost use Rattle.std.specs.List.{range_with_len};
 ghost use Rattle.geometry.specs.Numbers.{per_block, head_slots, span_slots};
 ghost use Rattle.image_model.specs.Places.{IsImage};
 ghost use Rattle.image_model.specs.Live.{live_at as the_live_at, own as the_own};
-ghost use Rattle.image_model.specs.Files.{is_index, index_page as the_index_page, entry_number as the_entry_number, data_page as the_data_page, first_missing as the_first_missing};
+ghost use Rattle.image_model.specs.Files.{is_index, index_page as the_index_page, entry_number as the_entry_number, data_page as the_data_page};
+ghost use Rattle.image_model.specs.Files.{first_missing as the_first_missing};
 ghost use Rattle.meta_tally.specs.Wholes.{IsKnown};
 
 use geometry::Geometry;
@@ -117,7 +118,8 @@ fn entry_number(
 ) -> Option<u32>
     requires image { IsImage g.now image.now }
     requires head { length head.now ≡ g.now.page }
-    requires known { head_slots g.now ≤ span → known.now.page ≡ the_index_page g.now (the_own (the_live_at g.now image.now) id) ((span - head_slots g.now) / span_slots g.now + 1) }
+    requires known { head_slots g.now ≤ span →
+        known.now.page ≡ the_index_page g.now (the_own (the_live_at g.now image.now) id) ((span - head_slots g.now) / span_slots g.now + 1) }
     ensures { result ≡ the_entry_number g.now (the_own (the_live_at g.now image.now) id) head.now span }
 {
     let head_slots = g.head_slots();
@@ -135,7 +137,8 @@ fn entry_number(
 fn has_data(g: &Geometry, image: &[u8], id: u16, head: &[u8], span: u32, known: &Known) -> bool
     requires image { IsImage g.now image.now }
     requires head { length head.now ≡ g.now.page }
-    requires known { head_slots g.now ≤ span → known.now.page ≡ the_index_page g.now (the_own (the_live_at g.now image.now) id) ((span - head_slots g.now) / span_slots g.now + 1) }
+    requires known { head_slots g.now ≤ span →
+        known.now.page ≡ the_index_page g.now (the_own (the_live_at g.now image.now) id) ((span - head_slots g.now) / span_slots g.now + 1) }
     ensures { is_none (the_data_page g.now (the_own (the_live_at g.now image.now) id) head.now span) ≡ not result }
 {
     let Some(p) = entry_number(g, image, id, head, span, known) else {
@@ -153,7 +156,8 @@ fn known_for(g: &Geometry, image: &[u8], id: u16, span: u32, known: Known) -> Kn
     requires id { id < 0x8000 }
     requires known { IsKnown g.now (the_own (the_live_at g.now image.now) id) known }
     ensures known { IsKnown g.now (the_own (the_live_at g.now image.now) id) result }
-    ensures page { head_slots g.now ≤ span → result.page ≡ the_index_page g.now (the_own (the_live_at g.now image.now) id) ((span - head_slots g.now) / span_slots g.now + 1) }
+    ensures page { head_slots g.now ≤ span →
+        result.page ≡ the_index_page g.now (the_own (the_live_at g.now image.now) id) ((span - head_slots g.now) / span_slots g.now + 1) }
 {
     let head_slots = g.head_slots();
     if span < head_slots {

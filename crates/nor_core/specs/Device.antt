@@ -41,7 +41,8 @@ pub record Stands {D : Type 0} (nor : NorOf D) (d : D) (image : List ℕ) (count
   pub all_bytes : nor.tells d → image ≡ nor.bytes d
   pub all_said : count ≡ length (nor.said d)
 
--- Nothing is said. Where bytes are told, R holds from those of `old` to those of `new`, and to what a cut since `old` may leave beside what it might leave before.
+-- Nothing is said. Where bytes are told, R holds from those of `old` to those of `new`, and to what a cut since `old` may leave beside what it might leave
+-- before.
 pub record Changes {D : Type 0} (nor : NorOf D) (old new : D) (R : List ℕ → List ℕ → Type 0) : Type 0 where
   pub cuts : Leaves nor old new (λ image count. (count ≡ length (nor.said old)) × (nor.tells old → R (nor.bytes old) image))
   pub said : nor.said new ≡ nor.said old
@@ -71,12 +72,15 @@ pub record Says {D : Type 0} (nor : NorOf D) (old new : D) (piece : List ℕ) : 
 
 -- where the call was noted, each image that an interrupted program may leave is one that a cut may leave
 pub record MayBeHalf {D : Type 0} (nor : NorOf D) (old new : D) (at : ℕ) (asked : List ℕ) : Type 0 where
-  pub possible : (t : ℕ) (image : List ℕ) → t ≤ nor.moment old → nor.moment old < nor.moment new → nor.tells old → HalfProgrammed at asked (nor.bytes old) image → nor.left_since new t image (length (nor.said old))
+  pub possible : (t : ℕ) (image : List ℕ) → t ≤ nor.moment old → nor.moment old < nor.moment new → nor.tells old →
+      HalfProgrammed at asked (nor.bytes old) image → nor.left_since new t image (length (nor.said old))
 
 -- where the call was noted, each image that an interrupted erase may leave is one that a cut may leave
 pub record MayBeErased {D : Type 0} (nor : NorOf D) (old new : D) (unit_ix : ℕ) (mark : Option Mark) : Type 0 where
-  pub possible : (t : ℕ) (image : List ℕ) → t ≤ nor.moment old → nor.moment old < nor.moment new → nor.tells old → HalfErased (unit_ix * nor.unit old) (nor.unit old) mark (nor.bytes old) image → nor.left_since new t image (length (nor.said old))
+  pub possible : (t : ℕ) (image : List ℕ) → t ≤ nor.moment old → nor.moment old < nor.moment new → nor.tells old →
+      HalfErased (unit_ix * nor.unit old) (nor.unit old) mark (nor.bytes old) image → nor.left_since new t image (length (nor.said old))
 
 -- where the call was noted, a cut may leave each front of the piece said, an empty or a whole one too
 pub record MayBeSaid {D : Type 0} (nor : NorOf D) (old new : D) (piece : List ℕ) : Type 0 where
-  pub possible : (t count : ℕ) → t ≤ nor.moment old → nor.moment old < nor.moment new → nor.tells old → length (nor.said old) ≤ count → count ≤ length (nor.said old) + length piece → nor.left_since new t (nor.bytes old) count
+  pub possible : (t count : ℕ) → t ≤ nor.moment old → nor.moment old < nor.moment new → nor.tells old → length (nor.said old) ≤ count →
+      count ≤ length (nor.said old) + length piece → nor.left_since new t (nor.bytes old) count

@@ -72,8 +72,10 @@ pub trait Nor: NorState {
     fn erase(&mut self, unit_ix: u32, mark: Option<Mark>) -> Result<(), Failed>
         requires inside { unit_ix < Self.size self.old / Self.unit self.old }
         requires marked { ForSome mark (λ m. m.at + 2 ≤ Self.unit self.old) }
-        ensures done { Self.tells self.old → OnOk result (Self.bytes self.new ≡ erased (Self.bytes self.old) (unit_ix * Self.unit self.old) (Self.unit self.old)) }
-        ensures half { Self.tells self.old → OnErr result (HalfErased (unit_ix * Self.unit self.old) (Self.unit self.old) mark (Self.bytes self.old) (Self.bytes self.new)) }
+        ensures done { Self.tells self.old →
+            OnOk result (Self.bytes self.new ≡ erased (Self.bytes self.old) (unit_ix * Self.unit self.old) (Self.unit self.old)) }
+        ensures half { Self.tells self.old →
+            OnErr result (HalfErased (unit_ix * Self.unit self.old) (Self.unit self.old) mark (Self.bytes self.old) (Self.bytes self.new)) }
         ensures cause { OnErr result (Rose (Self.faults self.old) (Self.faults self.new)) }
         ensures writes { Writes Self.NorState self.old self.new }
         ensures changes { Changes Self.NorState self.old self.new (InErase Self.NorState self.old self.new unit_ix mark) };

@@ -26,7 +26,8 @@ InCall note is image = InAsked note.asked note.at (length note.before.items) (be
 -- what a cut at the moment `t` may leave, where `is` stands after the calls, the newest of them first
 unfoldable pub CutAt : List Note → List ℕ → ℕ → List ℕ → Type 0
 CutAt [] is t image = image ≡ is
-CutAt (note ∷ older) is t image = ((note.now < t) × (image ≡ is)) ⊎ ((t ≡ note.now) × (InCall note is image ⊎ (image ≡ is))) ⊎ ((t < note.now) × CutAt older (before_call note is) t image)
+CutAt (note ∷ older) is t image = ((note.now < t) × (image ≡ is)) ⊎ ((t ≡ note.now) × (InCall note is image ⊎ (image ≡ is)))
+    ⊎ ((t < note.now) × CutAt older (before_call note is) t image)
 
 -- a call was noted, with what stood before in its `count` bytes from `at` on
 pub record Notes (now at count : ℕ) (IsAsked : Asked → Type 0) (old : List ℕ) (notes_old notes_new : List Note) : Type 0 where

@@ -1,5 +1,6 @@
 -- What a call of a device in memory leaves, by how it goes; a call that is cut by its pick and the generator.
-use Rattle.std.specs.Prelude.{ℕ, zero, suc, ◌≡◌, ◌+◌, ◌-◌, ◌*◌, ◌/◌, ◌%◌, ◌^◌, ◌<◌, ◌≤◌, ◌==◌, if◌then◌else◌, List, ◌++◌, length, take, drop, replicate, slice_index, slice_range, slice_set, bit_and, bit_or, bit_xor, Some, None}
+use Rattle.std.specs.Prelude.{ℕ, zero, suc, ◌≡◌, ◌+◌, ◌-◌, ◌*◌, ◌/◌, ◌%◌, ◌^◌, ◌<◌, ◌≤◌, ◌==◌, if◌then◌else◌, List, ◌++◌, length, take, drop, replicate}
+use Rattle.std.specs.Prelude.{slice_index, slice_range, slice_set, bit_and, bit_or, bit_xor, Some, None}
 use Rattle.std.specs.declared.option.Option.{Option}
 use Rattle.nor_core.specs.declared.device.Mark.{Mark}
 use Rattle.nor_memory.specs.declared.plan.Way.{Way}

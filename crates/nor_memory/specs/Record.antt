@@ -41,7 +41,8 @@ count_after (call ∷ calls) count = count_after calls (said_after call count)
 unfoldable pub LeftSince : ℕ → List Call → List ℕ → ℕ → ℕ → List ℕ → ℕ → Type 0
 LeftSince unit [] was said t image count = (image ≡ was) × (count ≡ said)
 LeftSince unit (call ∷ calls) was said (suc t) image count = LeftSince unit calls (after_call unit call was) (said_after call said) t image count
-LeftSince unit (call ∷ calls) was said zero image count = ((image ≡ was) × (count ≡ said)) ⊎ InCall unit call was said image count ⊎ LeftSince unit calls (after_call unit call was) (said_after call said) zero image count
+LeftSince unit (call ∷ calls) was said zero image count = ((image ≡ was) × (count ≡ said)) ⊎ InCall unit call was said image count
+    ⊎ LeftSince unit calls (after_call unit call was) (said_after call said) zero image count
 
 -- the call of a program
 pub record IsProgramCall (at : ℕ) (asked left : List ℕ) (call : Call) : Type 0 where

@@ -66,7 +66,8 @@ power_cut passed pick Off = Off
 abbrev pub plan_cut : ℕ → ℕ → Plan → Plan
 plan_cut passed pick plan = record plan { power = power_cut passed pick plan.power }
 
--- a call that changes the device is Ok only where it goes whole and is noted; it fails only where it doesn't go whole or found no memory to be noted in; with the power off it isn't noted
+-- a call that changes the device is Ok only where it goes whole and is noted; it fails only where it doesn't go whole or found no memory to be noted in;
+-- with the power off it isn't noted
 pub record Answered (way : Way) (before after : ℕ) (result : Result (Unit {0}) Failed) : Type 0 where
   pub whole : OnOk result (way ≡ Whole)
   pub noted : OnOk result (after ≡ before + 1)

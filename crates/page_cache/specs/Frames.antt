@@ -81,13 +81,15 @@ used_to g frames = word_in (frame_at g frames 0) 6
 
 -- a frame is where a page is looked for: its home, or else one of those that its home tells
 abbrev pub IsNear : Geometry → List ℕ → (page frame : ℕ) → Type 0
-IsNear g frames page frame = frame ≢ home_of g frames page → (since_of g frames (home_of g frames page) ≤ frame) × (frame < until_of g frames (home_of g frames page))
+IsNear g frames page frame = frame ≢ home_of g frames page →
+    (since_of g frames (home_of g frames page) ≤ frame) × (frame < until_of g frames (home_of g frames page))
 
 -- each page that is held stands in one frame alone, where it is looked for, and no frame below a number is free
 pub record IsFindable (g : Geometry) (frames : List ℕ) : Type 0 where
   pub placed : IsPlaced g frames
   pub near : (f : ℕ) → f < frame_count g frames → page_in g frames f < page_count g → IsNear g frames (page_in g frames f) f
-  pub one : (f h : ℕ) → f < frame_count g frames → h < frame_count g frames → page_in g frames f < page_count g → page_in g frames f ≡ page_in g frames h → f ≡ h
+  pub one : (f h : ℕ) → f < frame_count g frames → h < frame_count g frames → page_in g frames f < page_count g →
+      page_in g frames f ≡ page_in g frames h → f ≡ h
   pub used : (f : ℕ) → f < used_to g frames → f < frame_count g frames → page_in g frames f < page_count g
 
 -- what a frame tells of other pages stays
@@ -142,7 +144,8 @@ pub record GoesWithErase (page at count : ℕ) (old new : List ℕ) : Type 0 whe
 
 -- a frame was given up where a range of the device meets its page, and else stays
 abbrev pub GivenUp : ℕ → ℕ → ℕ → List ℕ → List ℕ → Type 0
-GivenUp page at count old new = ((number_of new ≡ 65535) × (at < number_of old * page + page) × (number_of old * page < at + count) × SameHead old new) ⊎ ((new ≡ old) × LiesOutside page at count (number_of old))
+GivenUp page at count old new = ((number_of new ≡ 65535) × (at < number_of old * page + page) × (number_of old * page < at + count) × SameHead old new)
+    ⊎ ((new ≡ old) × LiesOutside page at count (number_of old))
 
 -- how many bytes of the device an event meets
 abbrev pub span_of : Event → ℕ

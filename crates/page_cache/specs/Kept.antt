@@ -13,7 +13,8 @@ pub record IsKept {D : Type 0} (nor : NorOf D) (g : Geometry) (d : D) (frames : 
 
 -- with a frame for each page, and where no fault was counted, each read of the device has got one more page held
 pub record FewReads {D : Type 0} (nor : NorOf D) (g : Geometry) (old : D) (old_frames : List ℕ) (new : D) (new_frames : List ℕ) : Type 0 where
-  pub few : page_count g ≤ frame_count g old_frames → ¬ Rose (nor.faults old) (nor.faults new) → nor.device_reads new + held g old_frames ≤ nor.device_reads old + held g new_frames
+  pub few : page_count g ≤ frame_count g old_frames → ¬ Rose (nor.faults old) (nor.faults new) →
+      nor.device_reads new + held g old_frames ≤ nor.device_reads old + held g new_frames
 
 -- no frame was free, and one page may have gone
 pub record GaveOne (g : Geometry) (old new : List ℕ) : Type 0 where

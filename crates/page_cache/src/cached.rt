@@ -88,7 +88,8 @@ impl<'b, N: Nor> Cached<'b, N> {
     pub fn load(&mut self, page: u16) -> Result<(), Failed>
         requires { page < page_count self.old.geometry }
         ensures holds { OnOk result (the_holds self.new.geometry self.new.frames.now page ≡ true) }
-        ensures hit { the_holds self.old.geometry self.old.frames.now page ≡ true → IsOk result × (self.new.nor.now ≡ self.old.nor.now) × (self.new.frames.now ≡ self.old.frames.now) }
+        ensures hit { the_holds self.old.geometry self.old.frames.now page ≡ true →
+            IsOk result × (self.new.nor.now ≡ self.old.nor.now) × (self.new.frames.now ≡ self.old.frames.now) }
         ensures once { N.device_reads self.new.nor.now ≤ N.device_reads self.old.nor.now + 1 }
         ensures cause { OnErr result (Rose (N.faults self.old.nor.now) (N.faults self.new.nor.now)) }
         ensures only_reads { OnlyReads N.NorState self.old.nor.now self.new.nor.now }
@@ -106,7 +107,8 @@ impl<'b, N: Nor> Cached<'b, N> {
         requires page { page < page_count self.now.geometry }
         requires holds { the_holds self.now.geometry self.now.frames.now page ≡ true }
         ensures size { length result.now ≡ self.now.geometry.page }
-        ensures bytes { N.tells self.now.nor.now → result.now ≡ slice_range (N.bytes self.now.nor.now) (page * self.now.geometry.page) (page * self.now.geometry.page + self.now.geometry.page) }
+        ensures bytes { N.tells self.now.nor.now →
+            result.now ≡ slice_range (N.bytes self.now.nor.now) (page * self.now.geometry.page) (page * self.now.geometry.page + self.now.geometry.page) }
     {
         held_page(&self.geometry, self.nor, self.frames, page)
     }
@@ -136,10 +138,13 @@ impl<'b, N: Nor> Cached<'b, N> {
         ensures counted { N.device_reads self.new.nor.now ≤ N.device_reads self.old.nor.now + 1 }
         ensures cause { OnErr result (Rose (N.faults self.old.nor.now) (N.faults self.new.nor.now)) }
         ensures only_reads { OnlyReads N.NorState self.old.nor.now self.new.nor.now }
-        ensures hit { InOnePage self.old.geometry at (length into.old) → the_holds self.old.geometry self.old.frames.now (at / self.old.geometry.page) ≡ true → IsOk result × (self.new.nor.now ≡ self.old.nor.now) × (self.new.frames.now ≡ self.old.frames.now) }
-        ensures held { InOnePage self.old.geometry at (length into.old) → OnOk result (the_holds self.new.geometry self.new.frames.now (at / self.old.geometry.page) ≡ true) }
+        ensures hit { InOnePage self.old.geometry at (length into.old) → the_holds self.old.geometry self.old.frames.now (at / self.old.geometry.page) ≡ true →
+            IsOk result × (self.new.nor.now ≡ self.old.nor.now) × (self.new.frames.now ≡ self.old.frames.now) }
+        ensures held { InOnePage self.old.geometry at (length into.old) →
+            OnOk result (the_holds self.new.geometry self.new.frames.now (at / self.old.geometry.page) ≡ true) }
         ensures stays { Stays self.old.geometry self.old.frames.now self.new.frames.now }
-        ensures few { InOnePage self.old.geometry at (length into.old) → FewReads N.NorState self.old.geometry self.old.nor.now self.old.frames.now self.new.nor.now self.new.frames.now }
+        ensures few { InOnePage self.old.geometry at (length into.old) →
+            FewReads N.NorState self.old.geometry self.old.nor.now self.old.frames.now self.new.nor.now self.new.frames.now }
         ensures kept { IsKept N.NorState self.new.geometry self.new.nor.now self.new.frames.now }
         ensures same { IsSameCached self.old self.new }
     {
@@ -171,13 +176,16 @@ impl<'b, N: Nor> Cached<'b, N> {
     pub fn erase_through(&mut self, unit_ix: u32, mark: Option<Mark>) -> Result<(), Failed>
         requires inside { unit_ix < N.size self.old.nor.now / N.unit self.old.nor.now }
         requires marked { ForSome mark (λ m. m.at + 2 ≤ N.unit self.old.nor.now) }
-        ensures done { N.tells self.old.nor.now → OnOk result (N.bytes self.new.nor.now ≡ erased (N.bytes self.old.nor.now) (unit_ix * N.unit self.old.nor.now) (N.unit self.old.nor.now)) }
-        ensures half { N.tells self.old.nor.now → OnErr result (HalfErased (unit_ix * N.unit self.old.nor.now) (N.unit self.old.nor.now) mark (N.bytes self.old.nor.now) (N.bytes self.new.nor.now)) }
+        ensures done { N.tells self.old.nor.now →
+            OnOk result (N.bytes self.new.nor.now ≡ erased (N.bytes self.old.nor.now) (unit_ix * N.unit self.old.nor.now) (N.unit self.old.nor.now)) }
+        ensures half { N.tells self.old.nor.now →
+            OnErr result (HalfErased (unit_ix * N.unit self.old.nor.now) (N.unit self.old.nor.now) mark (N.bytes self.old.nor.now) (N.bytes self.new.nor.now)) }
         ensures cause { OnErr result (Rose (N.faults self.old.nor.now) (N.faults self.new.nor.now)) }
         ensures writes { Writes N.NorState self.old.nor.now self.new.nor.now }
         ensures changes { Changes N.NorState self.old.nor.now self.new.nor.now (InErase N.NorState self.old.nor.now self.new.nor.now unit_ix mark) }
         ensures stays { OnOk result (KeepsHeld self.old.geometry self.old.frames.now self.new.frames.now) }
-        ensures outside { OnErr result (KeepsOutside self.old.geometry (unit_ix * N.unit self.old.nor.now) (N.unit self.old.nor.now) self.old.frames.now self.new.frames.now) }
+        ensures outside { OnErr result
+            (KeepsOutside self.old.geometry (unit_ix * N.unit self.old.nor.now) (N.unit self.old.nor.now) self.old.frames.now self.new.frames.now) }
         ensures few { FewReads N.NorState self.old.geometry self.old.nor.now self.old.frames.now self.new.nor.now self.new.frames.now }
         ensures kept { IsKept N.NorState self.new.geometry self.new.nor.now self.new.frames.now }
         ensures same { IsSameCached self.old self.new }

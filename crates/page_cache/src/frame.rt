@@ -3,7 +3,8 @@
 ghost use Rattle.std.specs.Prelude.{◌≡◌, ◌≢◌, ℕ, ◌+◌, ◌*◌, ◌^◌, ◌<◌, ◌≤◌, ◌⊎◌, length, slice_index, slice_range, bit_and, OnOk, OnErr};
 ghost use Rattle.nor_core.specs.Count.{Rose};
 ghost use Rattle.nor_core.specs.Device.{OnlyReads};
-ghost use Rattle.page_cache.specs.Frames.{number_of as the_number_of, word_in, SameHead, Widened, Bounded, IsFree, IsCopy, GoesWithProgram, GoesWithErase, GivenUp, span_of, Follows};
+ghost use Rattle.page_cache.specs.Frames.{number_of as the_number_of, word_in, SameHead, Widened, Bounded, IsFree, IsCopy, GoesWithProgram, GoesWithErase};
+ghost use Rattle.page_cache.specs.Frames.{GivenUp, span_of, Follows};
 
 use nor_core::{Failed, Nor, NorState};
 

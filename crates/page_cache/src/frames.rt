@@ -6,7 +6,8 @@
 //! is free this is known without a walk too, by a number in the first frame.
 ghost use Rattle.std.specs.Prelude.{◌≡◌, ℕ, ◌+◌, ◌*◌, ◌%◌, ◌<◌, ◌≤◌, ◌≢◌, ◌⊎◌, ◌^◌, length, true, IfSome, None};
 ghost use Rattle.geometry.specs.Numbers.{page_count, cache_need};
-ghost use Rattle.page_cache.specs.Frames.{frame_size, frame_count as the_frame_count, frame_at, number_of as the_number_of, page_in, holds, home_of, AllInUse, IsFindable, IsNear, Widened, Bounded, AreSameCopies, span_of, Follows, IsReady, IsFree, EachFrame, EachPage, OnePage};
+ghost use Rattle.page_cache.specs.Frames.{frame_size, frame_count as the_frame_count, frame_at, number_of as the_number_of, page_in, holds, home_of, AllInUse};
+ghost use Rattle.page_cache.specs.Frames.{IsFindable, IsNear, Widened, Bounded, AreSameCopies, span_of, Follows, IsReady, IsFree, EachFrame, EachPage, OnePage};
 
 use crate::frame::{Event, HEAD, bound, empty, follow, number_of, span, strays, used, widen};
 use geometry::Geometry;
@@ -74,7 +75,8 @@ fn first_with(g: &Geometry, frames: &[u8], from: usize, to: usize, page: u16) ->
 // The first free frame from `from` on, below `to`.
 fn first_free(g: &Geometry, frames: &[u8], from: usize, to: usize) -> Option<usize>
     requires { to ≤ the_frame_count g.now frames.now }
-    ensures found { IfSome result (λ f. (from ≤ f) × (f < to) × (page_count g.now ≤ page_in g.now frames.now f) × ((h : ℕ) → from ≤ h → h < f → page_in g.now frames.now h < page_count g.now)) }
+    ensures found { IfSome result (λ f. (from ≤ f) × (f < to) × (page_count g.now ≤ page_in g.now frames.now f)
+        × ((h : ℕ) → from ≤ h → h < f → page_in g.now frames.now h < page_count g.now)) }
     ensures missing { result ≡ None → (f : ℕ) → from ≤ f → f < to → page_in g.now frames.now f < page_count g.now }
 {
     for f in from..to {

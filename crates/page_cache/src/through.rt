@@ -8,7 +8,8 @@ ghost use Rattle.geometry.specs.Numbers.{page_count, cache_need};
 ghost use Rattle.nor_core.specs.Count.{Rose};
 ghost use Rattle.nor_core.specs.Flash.{programmed, HalfProgrammed, erased, HalfErased};
 ghost use Rattle.nor_core.specs.Device.{OnlyReads, Changes, InErase, Writes};
-ghost use Rattle.page_cache.specs.Frames.{frame_size, frame_count as the_frame_count, frame_at, page_in, holds, KeepsHeld, KeepsOutside, SameHead, IsCopy, InOnePage};
+ghost use Rattle.page_cache.specs.Frames.{frame_size, frame_count as the_frame_count, frame_at, page_in, holds, KeepsHeld, KeepsOutside, SameHead, IsCopy};
+ghost use Rattle.page_cache.specs.Frames.{InOnePage};
 ghost use Rattle.page_cache.specs.Kept.{IsKept, FewReads, Stays};
 
 use crate::frame::{Event, HEAD, fill};
@@ -169,7 +170,8 @@ fn read_within<N: Nor>(
     requires inside { start + length into.old ≤ g.now.page }
     requires volume { g.now.blocks * g.now.block ≤ N.size nor.old }
     requires kept { IsKept N.NorState g.now nor.old frames.old }
-    ensures read { N.tells nor.old → OnOk result (into.new ≡ slice_range (N.bytes nor.old) (page * g.now.page + start) (page * g.now.page + start + length into.old)) }
+    ensures read { N.tells nor.old →
+        OnOk result (into.new ≡ slice_range (N.bytes nor.old) (page * g.now.page + start) (page * g.now.page + start + length into.old)) }
     ensures cause { OnErr result (Rose (N.faults nor.old) (N.faults nor.new)) }
     ensures reads { OnlyReads N.NorState nor.old nor.new }
     ensures kept { IsKept N.NorState g.now nor.new frames.new }
@@ -230,7 +232,8 @@ pub fn read_through<N: Nor>(
     ensures counted { N.device_reads nor.new ≤ N.device_reads nor.old + 1 }
     ensures cause { OnErr result (Rose (N.faults nor.old) (N.faults nor.new)) }
     ensures only_reads { OnlyReads N.NorState nor.old nor.new }
-    ensures hit { InOnePage g.now at (length into.old) → holds g.now frames.old (at / g.now.page) ≡ true → IsOk result × (nor.new ≡ nor.old) × (frames.new ≡ frames.old) }
+    ensures hit { InOnePage g.now at (length into.old) → holds g.now frames.old (at / g.now.page) ≡ true →
+        IsOk result × (nor.new ≡ nor.old) × (frames.new ≡ frames.old) }
     ensures held { InOnePage g.now at (length into.old) → OnOk result (holds g.now frames.new (at / g.now.page) ≡ true) }
     ensures stays { Stays g.now frames.old frames.new }
     ensures few { InOnePage g.now at (length into.old) → FewReads N.NorState g.now nor.old frames.old nor.new frames.new }

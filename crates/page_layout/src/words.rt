@@ -26,7 +26,8 @@ pub fn put_word(bytes: &mut [u8], at: usize, word: u16)
 /// page, and a range one of meta bytes or file bytes.
 pub fn fields_stay()
     ensures word { (at count i : ℕ) (old new : List ℕ) → SameOutside at count old new → IsApart at count i 2 → word_at new i ≡ word_at old i }
-    ensures range { (at count i n : ℕ) (old new : List ℕ) → SameOutside at count old new → IsApart at count i n → slice_range new i (i + n) ≡ slice_range old i (i + n) }
+    ensures range { (at count i n : ℕ) (old new : List ℕ) → SameOutside at count old new → IsApart at count i n →
+        slice_range new i (i + n) ≡ slice_range old i (i + n) }
     ensures header { (at count : ℕ) (old new : List ℕ) → SameOutside at count old new → 5 ≤ at → header_at new ≡ header_at old }
     ensures size { (at count : ℕ) (old new : List ℕ) → SameOutside at count old new → IsApart at count 8 4 → size_field new ≡ size_field old }
     ensures kind { (at count : ℕ) (old new : List ℕ) → SameOutside at count old new → IsApart at count 12 1 → type_of new ≡ type_of old }

@@ -161,11 +161,11 @@ module _ (was : List ℕ) (at n m : ℕ) (fits : at + (n + m) ≤ length was) wh
 
 -- ---- unit after unit
 
-pub freshens_none : (g : Geometry) (block : ℕ) (was : List ℕ) → Freshens g block was was
-freshens_none g block was = record { outside = same_all _ _ was; dead = inl refl; state = inl refl }
+pub freshens_none : (g : Geometry) (block erases : ℕ) (was : List ℕ) → Freshens g block erases was was
+freshens_none g block erases was = record { outside = same_all _ _ was; dead = inl refl; state = inl refl; counts = λ has. inl refl }
 
 pub erased_none : (g : Geometry) (block : ℕ) (was : List ℕ) → ErasedTo g block (0 * g.phys) was was
-erased_none g block was = record { outside = (freshens_none g block was).outside; ones = λ k low. absurd (omega arith) }
+erased_none g block was = record { outside = same_all _ _ was; ones = λ k low. absurd (omega arith) }
 
 module _ (g : Geometry) (block i : ℕ) (was now : List ℕ) (low : i < g.block / g.phys) (so_far : ErasedTo g block (i * g.phys) was now) where
   pub erased_more : (image : List ℕ) → UnitErased g block i now image → ErasedTo g block ((i + 1) * g.phys) was image
@@ -273,8 +273,8 @@ module _ (g : Geometry) (block : ℕ) (was : List ℕ) (low : block < g.blocks) 
       (cases_eq i 0)
 
   -- the block is as it was, or no page of it is live
-  erasing_freshens : (image : List ℕ) → InErasing g block was image → Freshens g block was image
-  erasing_freshens image e =
+  erasing_freshens : (erases : ℕ) (image : List ℕ) → InErasing g block was image → Freshens g block erases was image
+  erasing_freshens erases image e =
       let inside = unit_inside g e.unit e.below in
       let there = with_front_erased g block (e.unit * g.phys) was in
       let changed = spoils e.unit e.below image e.cut in
@@ -282,6 +282,7 @@ module _ (g : Geometry) (block : ℕ) (was : List ℕ) (low : block < g.blocks) 
         outside = outside_on (block * g.block) g.block was there image (so_far e.unit e.below image).outside (wider (block * g.block + e.unit * g.phys) g.phys (block * g.block) g.block there image (omega arith) (omega (arith, inside)) (cut_outside e.unit e.below image e.cut));
         dead = ⊎_elim (λ (same : image ≡ was). inl same) (λ (lacks : has_magic g image block ≡ false). inr (spoiled-is_dead g image block lacks)) changed;
         state = ⊎_elim (λ (same : image ≡ was). inl same) (λ (lacks : has_magic g image block ≡ false). inr (inl lacks)) changed;
+        counts = λ has. ⊎_elim (λ (same : image ≡ was). inl same) (λ (lacks : has_magic g image block ≡ false). let bad : true ≡ false = sym has ∙ lacks in absurd (cc)) changed;
       }
 
 -- ---- the programs of the erase count and the magic
@@ -316,10 +317,11 @@ module _ (mid : List ℕ) (at count magic : ℕ) (small : count < 65536) (small'
   pub both_outside : SameOutside at 4 mid (both mid at count magic)
   both_outside = outside_on at 4 mid (counted mid at count) (both mid at count magic) (wider (at + 2) 2 at 4 mid (counted mid at count) (omega arith) (omega arith) first.outside) (wider at 2 at 4 (counted mid at count) (both mid at count magic) (omega arith) (omega arith) second.outside)
 
-  pub count_stands : slice_index (both mid at count magic) (at + 2) + 256 * slice_index (both mid at count magic) (at + 2 + 1) ≡ count
-  count_stands =
-      let a0 : slice_index (both mid at count magic) (at + 2) ≡ slice_index (counted mid at count) (at + 2) = second.outside.after (at + 2) (omega arith) in
-      let a1 : slice_index (both mid at count magic) (at + 2 + 1) ≡ slice_index (counted mid at count) (at + 2 + 1) = second.outside.after (at + 2 + 1) (omega arith) in
+  -- a change of the first number leaves the second one
+  pub count_left : (image : List ℕ) → SameOutside at 2 (counted mid at count) image → slice_index image (at + 2) + 256 * slice_index image (at + 2 + 1) ≡ count
+  count_left image same =
+      let a0 : slice_index image (at + 2) ≡ slice_index (counted mid at count) (at + 2) = same.after (at + 2) (omega arith) in
+      let a1 : slice_index image (at + 2 + 1) ≡ slice_index (counted mid at count) (at + 2 + 1) = same.after (at + 2 + 1) (omega arith) in
       let b0 : slice_index (counted mid at count) (at + 2) ≡ bit_and (slice_index mid (at + 2)) (count % 256) = rw add-zero at (first.bytes 0 (omega arith)) in
       let b1 : slice_index (counted mid at count) (at + 2 + 1) ≡ bit_and (slice_index mid (at + 2 + 1)) (count / 256 % 256) = first.bytes 1 (omega arith) in
       let m0 : slice_index mid (at + 2) ≡ 255 = fresh 2 (omega arith) in
@@ -328,9 +330,12 @@ module _ (mid : List ℕ) (at count magic : ℕ) (small : count < 65536) (small'
       let m1' : slice_index mid (at + 2 + 1) ≡ 255 = rw three m1 in
       let c0 : bit_and 255 (count % 256) ≡ count % 256 = and_comm_255 (count % 256) (omega arith) in
       let c1 : bit_and 255 (count / 256 % 256) ≡ count / 256 % 256 = and_comm_255 (count / 256 % 256) (omega arith) in
-      let d0 : slice_index (both mid at count magic) (at + 2) ≡ count % 256 = a0 ∙ b0 ∙ rw m0 c0 in
-      let d1 : slice_index (both mid at count magic) (at + 2 + 1) ≡ count / 256 % 256 = a1 ∙ b1 ∙ rw m1' c1 in
+      let d0 : slice_index image (at + 2) ≡ count % 256 = a0 ∙ b0 ∙ rw m0 c0 in
+      let d1 : slice_index image (at + 2 + 1) ≡ count / 256 % 256 = a1 ∙ b1 ∙ rw m1' c1 in
       rw (d0, d1) (omega (arith, small))
+
+  pub count_stands : slice_index (both mid at count magic) (at + 2) + 256 * slice_index (both mid at count magic) (at + 2 + 1) ≡ count
+  count_stands = count_left (both mid at count magic) second.outside
 
   pub magic_stands : slice_index (both mid at count magic) at + 256 * slice_index (both mid at count magic) (at + 1) ≡ magic
   magic_stands =
@@ -423,8 +428,8 @@ module _ (g : Geometry) (block erases : ℕ) (now : List ℕ) (low : block < g.b
   count_is small = rw (s.count, lt-ltb erases 0x8000 small) refl
 
 pub freshens_slots : (g : Geometry) (block : ℕ) (was mid image : List ℕ) → block < g.blocks → IsImage g was → ErasedTo g block g.block was mid → SameOutside (block * g.block + 2 * (slots g - 2)) 4 mid image →
-    Freshens g block was image
-freshens_slots g block was mid image low is blank same =
+    (erases : ℕ) → (has_magic g image block ≡ true → erase_count g image block ≡ erases) → Freshens g block erases was image
+freshens_slots g block was mid image low is blank same erases count =
     let in_block = lies g in
     let outside = outside_on (block * g.block) g.block was mid image blank.outside (slots_wide g block mid image same) in
     let now : IsImage g image = record { len = omega (arith, outside.size, is.len) } in
@@ -439,6 +444,7 @@ freshens_slots g block was mid image low is blank same =
           (λ (magic : has_magic g image block ≡ true). inr (blank_free g block image low now front rest magic))
           (λ (none : has_magic g image block ≡ false). inl none)
           (cases_Bool (has_magic g image block)));
+      counts = λ has. inr (count has);
     }
 
 -- the last two programs change no byte but those of the count and the magic
@@ -455,11 +461,53 @@ mark_outside g block count mid image cut =
     (wider (block * g.block + 2 * (slots g - 2)) 2 (block * g.block + 2 * (slots g - 2)) 4 _ image (omega arith) (omega arith) half.outside))
     cut
 
+-- while the magic is programmed the count stands
+half_count : (g : Geometry) (block count : ℕ) (was mid image : List ℕ) → ErasedTo g block g.block was mid → count < 65536 →
+    HalfProgrammed (block * g.block + 2 * (slots g - 2)) (to_le_bytes w16 (right_magic g block)) (programmed mid (block * g.block + 2 * (slots g - 1)) (to_le_bytes w16 count)) image →
+    slot_of g image block (slots g - 1) ≡ count
+unfolding lookups per_block slot_of
+half_count g block count was mid image blank small half =
+    let in_block = lies g in
+    let place : block * g.block + 2 * (slots g - 1) ≡ block * g.block + 2 * (slots g - 2) + 2 = omega (arith, in_block.some) in
+    let low_magic : right_magic g block < 65536 = let s = magic_small g block in omega (arith, s) in
+    let fresh : (k : ℕ) → k < 4 → slice_index mid (block * g.block + 2 * (slots g - 2) + k) ≡ 255 = λ k low.
+    let there : block * g.block + 2 * (slots g - 2) + k ≡ block * g.block + (2 * (slots g - 2) + k) = omega arith in
+    rw there (blank.ones (2 * (slots g - 2) + k) (omega (arith, low, in_block.some, in_block.pages, in_block.inside))) in
+    let same : SameOutside (block * g.block + 2 * (slots g - 2)) 2 (counted mid (block * g.block + 2 * (slots g - 2)) count) image =
+    subst (λ (n : ℕ). SameOutside (block * g.block + 2 * (slots g - 2)) 2 (programmed mid n (to_le_bytes w16 count)) image) place half.outside in
+    let w = count_left mid (block * g.block + 2 * (slots g - 2)) count (right_magic g block) small low_magic fresh image same in
+    rw place w
+
+slot_counts : (g : Geometry) (image : List ℕ) (block count : ℕ) → count < 0x8000 → slot_of g image block (slots g - 1) ≡ count → erase_count g image block ≡ count
+unfolding erase_count
+slot_counts g image block count small is = rw (is, lt-ltb count 0x8000 small) refl
+
+-- before that the block lacks its magic
+half_lacks : (g : Geometry) (block count : ℕ) (was mid image : List ℕ) → ErasedTo g block g.block was mid → HalfProgrammed (block * g.block + 2 * (slots g - 1)) (to_le_bytes w16 count) mid image → has_magic g image block ≡ false
+unfolding lookups per_block
+half_lacks g block count was mid image blank half =
+    let in_block = lies g in
+    let l : slice_index image (block * g.block + 2 * (slots g - 2)) ≡ 255 = half.outside.before (block * g.block + 2 * (slots g - 2)) (omega (arith, in_block.some)) ∙ blank.ones (2 * (slots g - 2)) (omega (arith, in_block.some, in_block.pages, in_block.inside)) in
+    let h : slice_index image (block * g.block + (2 * (slots g - 2) + 1)) ≡ 255 =
+    half.outside.before (block * g.block + (2 * (slots g - 2) + 1)) (omega (arith, in_block.some)) ∙ blank.ones (2 * (slots g - 2) + 1) (omega (arith, in_block.some, in_block.pages, in_block.inside)) in
+    erased_lacks g image block l (rw add_assoc h)
+
+mark_counts : (g : Geometry) (block count : ℕ) (was mid image : List ℕ) → ErasedTo g block g.block was mid → count ≤ 0x7FFF → MarkCut g block count mid image → has_magic g image block ≡ true → erase_count g image block ≡ count
+unfolding lookups per_block
+mark_counts g block count was mid image blank small cut has = ⊎_elim
+    (λ (half : HalfProgrammed (block * g.block + 2 * (slots g - 1)) (to_le_bytes w16 count) mid image). let bad : true ≡ false = sym has ∙ half_lacks g block count was mid image blank half in absurd (cc))
+    (λ (half : HalfProgrammed (block * g.block + 2 * (slots g - 2)) (to_le_bytes w16 (right_magic g block)) (programmed mid (block * g.block + 2 * (slots g - 1)) (to_le_bytes w16 count)) image).
+    slot_counts g image block count (omega (arith, small)) (half_count g block count was mid image blank (omega (arith, small)) half))
+    cut
+
 -- a cut of the calls in their order leaves the block as it was, or without any live page
-pub cut_freshens : (g : Geometry) (block count : ℕ) (was image : List ℕ) → block < g.blocks → IsImage g was → FreshCut g block count was image → Freshens g block was image
-cut_freshens g block count was image low is cut = ⊎_elim
-    (λ (erasing : InErasing g block was image). erasing_freshens g block was low is image erasing)
-    (λ (marking : MarkCut g block count (blank g block was) image). freshens_slots g block was (blank g block was) image low is (front_erased g block was low is g.block (omega arith)) (mark_outside g block count (blank g block was) image marking))
+pub cut_freshens : (g : Geometry) (block count : ℕ) (was image : List ℕ) → block < g.blocks → count ≤ 0x7FFF → IsImage g was → FreshCut g block count was image → Freshens g block count was image
+cut_freshens g block count was image low small is cut = ⊎_elim
+    (λ (erasing : InErasing g block was image). erasing_freshens g block was low is count image erasing)
+    (λ (marking : MarkCut g block count (blank g block was) image).
+    let erased_all = front_erased g block was low is g.block (omega arith) in
+    freshens_slots g block was (blank g block was) image low is erased_all (mark_outside g block count (blank g block was) image marking) count
+    (mark_counts g block count was (blank g block was) image erased_all small marking))
     cut
 
 pub is_fresh : (g : Geometry) (block erases : ℕ) (was mid now : List ℕ) → block < g.blocks → IsImage g was → erases ≤ 0x7FFF → ErasedTo g block g.block was mid → now ≡ with_magic g block erases mid → IsFresh g block erases was now

@@ -19,8 +19,10 @@ use Rattle.image_laws.proofs.Kill.{deleted_from_flag}
 use Rattle.image_laws.proofs.LiveStep.{kill-changes}
 use Rattle.image_laws.proofs.Placing.{page_byte}
 use Rattle.image_laws.proofs.TidySteps.{agree_page, agree_entry, agree-on, wide_flags, zeroed}
+use Rattle.trim_laws.specs.Wear.{Worn}
 use Rattle.trim_laws.proofs.Trims.{same_trims, kill_trims}
-use Rattle.flash_view.specs.Steps.{Finishes, making}
+use Rattle.trim_laws.proofs.Wears.{programs_keep, upkeep_same, worn_same}
+use Rattle.flash_view.specs.Steps.{Finishes, making, any_image}
 use Rattle.page_put.specs.Kills.{deleted, killed, HalfKilled}
 use Rattle.page_put.specs.LivePages.{IsKillable, killing, IsDead, Stays, Cleared, clearing}
 use Rattle.page_put.proofs.Clearing.{left_half, left_done, clears_deleted}
@@ -62,12 +64,20 @@ set_in g a p x live =
     (λ (clear : bit_at (slice_index a (p * g.page + 4)) 7 ≡ 0). let no : is_finished (page_of g a p) ≡ false = deleted_from_flag (page_of g a p) (rw flag clear) in absurd (cc))
     (bit_cases (slice_index a (p * g.page + 4)) 7)
 
-pub kills : (g : Geometry) (a : List ℕ) (p : ℕ) → IsImage g a → IsKillable g a p → Finishes g a a (making (λ h. HalfKilled h p) (λ h. killed h p)) (killing p)
+pub kills : (g : Geometry) (a : List ℕ) (p : ℕ) → IsImage g a → IsKillable g a p → Finishes g a a (making any_image (λ h. HalfKilled h p) (λ h. killed h p)) (killing p)
 kills g a p is can =
     let page = some_page (live_at g a p) can.live in
     let clears : ClearsBit 7 (slice_index a (p * g.page + 4)) (flags_left g a p) = clears_deleted (slice_index a (p * g.page + 4)) can.byte (set_in g a p page.0 page.1) in
     let law = kill-changes g a (deleted g p a) (killed g p a) p (flags_left g a p) page.0 is page.1 clears (kill_done g a p) in
-    record { needs = λ c h. kill_trims g a c p (inl (law.0 c (kill_cut g a c p h))); cut = λ c h. law.0 c (kill_cut g a c p h); done = λ c ok e. subst (λ (l : List ℕ). KillDone g p a l) (sym e) law.1 }
+    record {
+      needs = (
+        tt,
+        (λ c h. let left = law.0 c (kill_cut g a c p h) in upkeep_same g a c (kill_trims g a c p (inl left)) (programs_keep g a c p left.agree)),
+        λ c e. subst (λ (l : List ℕ). Worn g a l) (sym e) (worn_same g a _ (programs_keep g a _ p law.1.agree)),
+      );
+      cut = λ c h. law.0 c (kill_cut g a c p h);
+      done = λ c ok e. subst (λ (l : List ℕ). KillDone g p a l) (sym e) law.1;
+    }
 
 -- ---- of a page that isn't live
 
@@ -101,9 +111,13 @@ module _ (g : Geometry) (a : List ℕ) (p : ℕ) (is : IsImage g a) (can : IsDea
       (λ (y : HalfProgrammed (entry_at g p) (0 ∷ 0 ∷ []) (deleted g p a) c). entry_stays c y)
       (kill_cut g a c p h)
 
-  pub clears_dead : Finishes g a a (making (λ h. HalfKilled h p) (λ h. killed h p)) (clearing p)
+  pub clears_dead : Finishes g a a (making any_image (λ h. HalfKilled h p) (λ h. killed h p)) (clearing p)
   clears_dead = record {
-    needs = λ c h. same_trims g a c (stays c h).live;
+    needs = (
+      tt,
+      (λ c h. let left = stays c h in upkeep_same g a c (same_trims g a c left.live) (programs_keep g a c p left.agree)),
+      λ c e. subst (λ (l : List ℕ). Worn g a l) (sym e) (worn_same g a _ (programs_keep g a _ p cleared.stays.agree)),
+    );
     cut = stays;
     done = λ c ok e. subst (λ (l : List ℕ). Cleared g p a l) (sym e) cleared;
   }

@@ -1,6 +1,7 @@
 pub mod Recounted
 pub mod Changing
 pub mod Filled
+pub mod UsedPages
 pub mod Bytes
 pub mod Finishing
 pub mod Placed
@@ -9,4 +10,3 @@ pub mod Erasures
 pub mod Clearing
 pub mod Killed
 pub mod Putting
-pub mod Counted

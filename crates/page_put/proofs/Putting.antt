@@ -14,14 +14,14 @@ use Rattle.image_model.specs.Headers.{obj_id, is_finished}
 use Rattle.image_laws.specs.Programs.{ClearsBit}
 use Rattle.image_laws.specs.Put.{IsReadyPage}
 use Rattle.image_laws.specs.LiveSteps.{PutCut, PutLeaves, PutDone}
-use Rattle.image_laws.proofs.Finished.{torn_from}
 use Rattle.image_laws.proofs.LiveStep.{put-changes}
 use Rattle.image_laws.proofs.PutStep.{byte3}
-use Rattle.flash_view.specs.Steps.{Begins, Finishes, making}
-use Rattle.page_put.specs.Placing.{placed_flags, finished_flags, placed_page, with_entry, with_header, with_page, IsPlacing}
+use Rattle.trim_laws.specs.Wear.{Worn}
+use Rattle.flash_view.specs.Steps.{Finishes, making, any_image}
+use Rattle.page_put.specs.Placing.{placed_flags, finished_flags, placed_page, with_entry, with_header, with_page, put_by, IsPlacing, IsPutting}
 use Rattle.page_put.specs.LivePages.{finished_page, IsPuttable, putting}
-use Rattle.trim_laws.specs.Trim.{Trims}
-use Rattle.trim_laws.proofs.Trims.{put_trims, put_back}
+use Rattle.trim_laws.proofs.Trims.{put_trims}
+use Rattle.trim_laws.proofs.Wears.{programs_keep, upkeep_same, worn_same}
 use Rattle.page_put.proofs.Finishing.{programs_place, finish_clears_final}
 
 -- ---- the page is ready to be put
@@ -84,17 +84,20 @@ module _ (g : Geometry) (a : List ℕ) (p : ℕ) (kind : Kind) (tag : Tag) (buil
       put-changes g a (with_entry g p page a) (with_header g p page a) placed (programmed placed (p * g.page + 4) (0xFD ∷ [])) p page (finished_flags kind) is can.free can.ready
       (record { placed = programs_place g p page a; finish = (finish_clears_final kind _ _ flags).1 })
 
-  pub places : Begins g a (making (λ h. IsPlacing h p (placed_page h kind tag built)) (λ h. with_page h p (placed_page h kind tag built))) (putting p kind tag built)
-  places = record { needs = λ c h. put_trims g a c p (finished_page g kind tag built) can.trim (inl (law.0 c (inl h))); cut = λ c h. law.0 c (inl h) }
+  -- what a cut leaves, by the flags that the last program clears
+  cut_by : (c : List ℕ) → IsPutting g p page a c → PutLeaves g p (finished_page g kind tag built) a c
+  cut_by c h = ⊎_elim
+      (λ (placing : IsPlacing g p page a c). law.0 c (inl placing))
+      (λ (final : HalfProgrammed (p * g.page + 4) (0xFD ∷ []) placed c). law.0 c (inr ((finish_clears_final kind _ _ flags).0 c final)))
+      h
 
-  -- the page that is placed adds nothing to the live pages
-  finish_trims : (c : List ℕ) → HalfProgrammed (p * g.page + 4) (0xFD ∷ []) placed c → Trims g placed c
-  finish_trims c h trim =
-      let page_is : List ℕ = finished_page g kind tag built in
-      let there : PutLeaves g p page_is a placed = law.0 placed (inl (inr (inr (torn_from _ _ _ _ (programs_place g p page a).three)))) in
-      put_trims g a c p page_is can.trim (inl (law.0 c (inr ((finish_clears_final kind _ _ flags).0 c h)))) (put_back g a placed p page_is there trim)
-
-  pub finishes : (b : List ℕ) → b ≡ placed → Finishes g a b (making (λ h. HalfProgrammed (p * h.page + 4) (0xFD ∷ [])) (λ h b. programmed b (p * h.page + 4) (0xFD ∷ []))) (putting p kind tag built)
-  finishes b e =
-      subst (λ (l : List ℕ). Finishes g a l (making (λ h. HalfProgrammed (p * h.page + 4) (0xFD ∷ [])) (λ h b. programmed b (p * h.page + 4) (0xFD ∷ []))) (putting p kind tag built)) (sym e)
-      (record { needs = finish_trims; cut = λ c h. law.0 c (inr ((finish_clears_final kind _ _ flags).0 c h)); done = λ c ok now. subst (λ (l : List ℕ). PutDone g p (finished_page g kind tag built) a l) (sym now) law.1 })
+  pub puts : Finishes g a a (making any_image (λ h. IsPutting h p (placed_page h kind tag built)) (λ h. put_by h p (placed_page h kind tag built))) (putting p kind tag built)
+  puts = record {
+    needs = (
+      tt,
+      (λ c h. let left = cut_by c h in upkeep_same g a c (put_trims g a c p (finished_page g kind tag built) can.trim (inl left)) (programs_keep g a c p left.agree)),
+      λ c now. subst (λ (l : List ℕ). Worn g a l) (sym now) (worn_same g a _ (programs_keep g a _ p law.1.agree)),
+    );
+    cut = cut_by;
+    done = λ c ok now. subst (λ (l : List ℕ). PutDone g p (finished_page g kind tag built) a l) (sym now) law.1;
+  }

@@ -11,11 +11,13 @@ use Rattle.image_model.specs.Places.{has_magic, erase_count, block_of}
 use Rattle.image_model.specs.Tidy.{is_free_block}
 use Rattle.image_laws.specs.Blocks.{magic_mark}
 
--- At each cut all other blocks are as they were, and nothing happened, or no page of the block is live: it lacks its magic, or it is free.
-pub record Freshens (g : Geometry) (block : ℕ) (was image : List ℕ) : Type 0 where
+-- At each cut all other blocks are as they were, and nothing happened, or no page of the block is live: it lacks its magic, or it is free, with
+-- that erase count.
+pub record Freshens (g : Geometry) (block erases : ℕ) (was image : List ℕ) : Type 0 where
   pub outside : SameOutside (block * g.block) g.block was image
   pub dead : (image ≡ was) ⊎ ((p : ℕ) → block_of g p ≡ block → live_at g image p ≡ None)
   pub state : (image ≡ was) ⊎ ((has_magic g image block ≡ false) ⊎ (is_free_block g image block ≡ true))
+  pub counts : has_magic g image block ≡ true → (image ≡ was) ⊎ (erase_count g image block ≡ erases)
 
 -- Afterwards all other blocks are as they were, and the block is free with that erase count.
 pub record IsFresh (g : Geometry) (block erases : ℕ) (was now : List ℕ) : Type 0 where
@@ -67,8 +69,10 @@ with_magic g block count image = programmed (with_count g block count image) (ma
 -- A cut of the last two programs leaves the erase count half programmed, or, once it stands, the magic.
 abbrev pub MarkCut : Geometry → (block count : ℕ) → List ℕ → List ℕ → Type 0
 MarkCut g block count was image =
-    HalfProgrammed (count_start g block) (to_le_bytes w16 count) was image ⊎ HalfProgrammed (magic_start g block) (to_le_bytes w16 (right_magic g block)) (with_count g block count was) image
+    HalfProgrammed (count_start g block) (to_le_bytes w16 count) was image
+    ⊎ HalfProgrammed (magic_start g block) (to_le_bytes w16 (right_magic g block)) (with_count g block count was) image
 
--- A cut leaves the block in its erases, from the first unit upwards, or, once it is erased, in the program of its erase count, or, once this stands, in that of its magic.
+-- A cut leaves the block in its erases, from the first unit upwards, or, once it is erased, in the program of its erase count, or, once this stands,
+-- in that of its magic.
 abbrev pub FreshCut : Geometry → (block count : ℕ) → List ℕ → List ℕ → Type 0
 FreshCut g block count was image = InErasing g block was image ⊎ MarkCut g block count (blank g block was) image

@@ -1,5 +1,5 @@
 -- The bytes of a page that is placed, and the image after each of its programs.
-use Rattle.std.specs.Prelude.{◌≡◌, ℕ, ◌+◌, ◌*◌, ◌/◌, ◌%◌, List, [], ◌∷◌, ◌++◌, take, drop, slice_index, slice_range}
+use Rattle.std.specs.Prelude.{◌≡◌, ℕ, ◌+◌, ◌*◌, ◌/◌, ◌%◌, ◌⊎◌, List, [], ◌∷◌, ◌++◌, take, drop, slice_index, slice_range}
 use Rattle.geometry.specs.declared.geometry.Geometry.{Geometry}
 use Rattle.table_model.specs.declared.error.Tag.{Tag}
 use Rattle.flash_view.specs.declared.kinds.Kind.{Kind}
@@ -46,9 +46,17 @@ with_header g p page image = programmed (with_entry g p page image) (p * g.page)
 abbrev pub with_page : Geometry → ℕ → List ℕ → List ℕ → List ℕ
 with_page g p page image = programmed (with_header g p page image) (p * g.page + 5) (drop 5 page)
 
--- what one of the three programs leaves, interrupted or done
+-- after the fourth, that clears FINAL
+abbrev pub put_by : Geometry → ℕ → List ℕ → List ℕ → List ℕ
+put_by g p page image = programmed (with_page g p page image) (p * g.page + 4) (0xFD ∷ [])
+
+-- what one of the first three programs leaves, interrupted or done
 abbrev pub IsPlacing : Geometry → ℕ → List ℕ → List ℕ → List ℕ → Type 0
 IsPlacing g p page was image = PlacingCut g p page was (with_entry g p page was) (with_header g p page was) image
+
+-- what one of the four leaves
+abbrev pub IsPutting : Geometry → ℕ → List ℕ → List ℕ → List ℕ → Type 0
+IsPutting g p page was image = IsPlacing g p page was image ⊎ HalfProgrammed (p * g.page + 4) (0xFD ∷ []) (with_page g p page was) image
 
 -- The images after the programs of a page are those of which the laws of a put speak.
 abbrev pub ProgramsPlace : Geometry → Type 0

@@ -22,7 +22,8 @@ pub fn mark_removed<N: Nor>(v: &mut View<'_, N>, page: u16) -> Result<(), Failed
     ensures same { IsSameView v.old v.new }
     ensures wrote { v.new.wrote ≡ true }
     ensures changes { Changes N.NorState v.old.nor.now v.new.nor.now (HalfProgrammed (page * v.old.geometry.page + 4) (0xBF ∷ [])) }
-    ensures done { N.tells v.old.nor.now → OnOk result (N.bytes v.new.nor.now ≡ programmed (N.bytes v.old.nor.now) (page * v.old.geometry.page + 4) (0xBF ∷ [])) }
+    ensures done { N.tells v.old.nor.now →
+        OnOk result (N.bytes v.new.nor.now ≡ programmed (N.bytes v.old.nor.now) (page * v.old.geometry.page + 4) (0xBF ∷ [])) }
     ensures counted { IsUsedPage v.old.geometry (N.bytes v.old.nor.now) page → StandsAgain v.old v.new result }
     ensures few { N.device_writes v.new.nor.now ≤ N.device_writes v.old.nor.now + 1 }
 {
@@ -68,8 +69,10 @@ pub fn name_slot<N: Nor>(
     ensures cause { OnErr result (Rose (N.faults v.old.nor.now) (N.faults v.new.nor.now)) }
     ensures same { IsSameView v.old v.new }
     ensures wrote { v.new.wrote ≡ true }
-    ensures changes { Changes N.NorState v.old.nor.now v.new.nor.now (HalfProgrammed (page * v.old.geometry.page + slot_at v.old.geometry span) (to_le_bytes w16 target)) }
-    ensures done { N.tells v.old.nor.now → OnOk result (N.bytes v.new.nor.now ≡ programmed (N.bytes v.old.nor.now) (page * v.old.geometry.page + slot_at v.old.geometry span) (to_le_bytes w16 target)) }
+    ensures changes { Changes N.NorState v.old.nor.now v.new.nor.now
+        (HalfProgrammed (page * v.old.geometry.page + slot_at v.old.geometry span) (to_le_bytes w16 target)) }
+    ensures done { N.tells v.old.nor.now → OnOk result
+        (N.bytes v.new.nor.now ≡ programmed (N.bytes v.old.nor.now) (page * v.old.geometry.page + slot_at v.old.geometry span) (to_le_bytes w16 target)) }
     ensures counted { IsUsedPage v.old.geometry (N.bytes v.old.nor.now) page → StandsAgain v.old v.new result }
     ensures few { N.device_writes v.new.nor.now ≤ N.device_writes v.old.nor.now + 1 }
 {

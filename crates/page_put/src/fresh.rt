@@ -37,7 +37,8 @@ fn erase_unit<N: Nor>(v: &mut View<'_, N>, block: u16, i: u32) -> Result<(), Fai
     requires unit { i < v.old.geometry.block / v.old.geometry.phys }
     ensures cause { OnErr result (Rose (N.faults v.old.nor.now) (N.faults v.new.nor.now)) }
     ensures changes { Changes N.NorState v.old.nor.now v.new.nor.now (UnitCut v.old.geometry block i) }
-    ensures done { N.tells v.old.nor.now → OnOk result (N.bytes v.new.nor.now ≡ erased (N.bytes v.old.nor.now) (block * v.old.geometry.block + i * v.old.geometry.phys) v.old.geometry.phys) }
+    ensures done { N.tells v.old.nor.now →
+        OnOk result (N.bytes v.new.nor.now ≡ erased (N.bytes v.old.nor.now) (block * v.old.geometry.block + i * v.old.geometry.phys) v.old.geometry.phys) }
     ensures same { IsSameView v.old v.new }
     ensures wrote { v.new.wrote ≡ true }
     ensures rows { v.new.rows.now ≡ v.old.rows.now }
@@ -95,9 +96,10 @@ fn program_fresh<N: Nor>(v: &mut View<'_, N>, block: u16, count: u16) -> Result<
     ensures same { IsSameView v.old v.new }
     ensures wrote { v.new.wrote ≡ true }
     ensures rows { v.new.rows.now ≡ v.old.rows.now }
-    ensures changes { Changes N.NorState v.old.nor.now v.new.nor.now (Freshens v.old.geometry block) }
+    ensures changes { Changes N.NorState v.old.nor.now v.new.nor.now (Freshens v.old.geometry block count) }
     ensures order { Changes N.NorState v.old.nor.now v.new.nor.now (FreshCut v.old.geometry block count) }
-    ensures bytes { N.tells v.old.nor.now → OnOk result (N.bytes v.new.nor.now ≡ with_magic v.old.geometry block count (blank v.old.geometry block (N.bytes v.old.nor.now))) }
+    ensures bytes { N.tells v.old.nor.now →
+        OnOk result (N.bytes v.new.nor.now ≡ with_magic v.old.geometry block count (blank v.old.geometry block (N.bytes v.old.nor.now))) }
     ensures done { N.tells v.old.nor.now → OnOk result (IsFresh v.old.geometry block count (N.bytes v.old.nor.now) (N.bytes v.new.nor.now)) }
     ensures few { N.device_writes v.new.nor.now ≤ N.device_writes v.old.nor.now + v.old.geometry.block / v.old.geometry.phys + 2 }
 {
@@ -116,9 +118,10 @@ pub fn fresh_block<N: Nor>(v: &mut View<'_, N>, block: u16, count: u16) -> Resul
     ensures cause { OnErr result (Rose (N.faults v.old.nor.now) (N.faults v.new.nor.now)) }
     ensures same { IsSameView v.old v.new }
     ensures wrote { v.new.wrote ≡ true }
-    ensures changes { Changes N.NorState v.old.nor.now v.new.nor.now (Freshens v.old.geometry block) }
+    ensures changes { Changes N.NorState v.old.nor.now v.new.nor.now (Freshens v.old.geometry block count) }
     ensures order { Changes N.NorState v.old.nor.now v.new.nor.now (FreshCut v.old.geometry block count) }
-    ensures bytes { N.tells v.old.nor.now → OnOk result (N.bytes v.new.nor.now ≡ with_magic v.old.geometry block count (blank v.old.geometry block (N.bytes v.old.nor.now))) }
+    ensures bytes { N.tells v.old.nor.now →
+        OnOk result (N.bytes v.new.nor.now ≡ with_magic v.old.geometry block count (blank v.old.geometry block (N.bytes v.old.nor.now))) }
     ensures done { N.tells v.old.nor.now → OnOk result (IsFresh v.old.geometry block count (N.bytes v.old.nor.now) (N.bytes v.new.nor.now)) }
     ensures counted { StandsAgain v.old v.new result }
     ensures few { N.device_writes v.new.nor.now ≤ N.device_writes v.old.nor.now + v.old.geometry.block / v.old.geometry.phys + 2 }

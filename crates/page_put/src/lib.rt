@@ -10,4 +10,4 @@ mod rows;
 pub use fields::{fill_tail, mark_removed, name_slot};
 pub use fresh::fresh_block;
 pub use killing::kill;
-pub use put::{finish, place, put_page, puts_by_programs};
+pub use put::{put_page, puts_by_programs};

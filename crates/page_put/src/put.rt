@@ -8,7 +8,7 @@ ghost use Rattle.flash_view.specs.Places.{IsEntryPage};
 ghost use Rattle.flash_view.specs.Same.{IsSameView};
 ghost use Rattle.flash_view.specs.Steps.{Stepped, failed};
 ghost use Rattle.page_put.specs.LivePages.{putting};
-ghost use Rattle.page_put.specs.Placing.{placed_id, placed_flags, placed_page, with_page, IsPlacing, ProgramsPlace, FinishClearsFinal};
+ghost use Rattle.page_put.specs.Placing.{placed_id, placed_flags, placed_page, with_page, put_by, IsPlacing, IsPutting, ProgramsPlace, FinishClearsFinal};
 ghost use Rattle.geometry.specs.declared.geometry.Geometry.{Geometry};
 ghost use Rattle.page_put.specs.Recount.{OneChanges, StandsAgain};
 
@@ -58,7 +58,8 @@ fn program_page<N: Nor>(v: &mut View<'_, N>, page: u16, kind: Kind, tag: Tag) ->
     ensures only { N.tells v.old.nor.now → OneChanges v.old.geometry page (N.bytes v.old.nor.now) (N.bytes v.new.nor.now) }
     ensures rows { v.new.rows.now ≡ v.old.rows.now }
     ensures changes { Changes N.NorState v.old.nor.now v.new.nor.now (IsPlacing v.old.geometry page (placed_page v.old.geometry kind tag v.old.work.now)) }
-    ensures done { N.tells v.old.nor.now → OnOk result (N.bytes v.new.nor.now ≡ with_page v.old.geometry page (placed_page v.old.geometry kind tag v.old.work.now) (N.bytes v.old.nor.now)) }
+    ensures done { N.tells v.old.nor.now →
+        OnOk result (N.bytes v.new.nor.now ≡ with_page v.old.geometry page (placed_page v.old.geometry kind tag v.old.work.now) (N.bytes v.old.nor.now)) }
     ensures few { N.device_writes v.new.nor.now ≤ N.device_writes v.old.nor.now + 3 }
 {
     let head = placed(kind, tag);
@@ -69,44 +70,6 @@ fn program_page<N: Nor>(v: &mut View<'_, N>, page: u16, kind: Kind, tag: Tag) ->
     v.program_build(page, 5)
 }
 
-/// Places a page: its entry, its header with USED cleared, and the rest of the page that is being built.
-/// These are three programs, and the page isn't live after any of them, nor where one is cut off. The entry
-/// and the page are to be erased, and the id without bit 15 is from 1 to 0x7FFE.
-#[tactic(auto, using(flash_view::proofs::Looking::same_then))]
-pub fn place<N: Nor>(v: &mut View<'_, N>, page: u16, kind: Kind, tag: Tag) -> Result<(), Failed>
-    requires page { IsEntryPage v.old.geometry page }
-    requires id { (1 ≤ tag.id) × (tag.id ≤ 0x7FFE) }
-    ensures cause { OnErr result (Rose (N.faults v.old.nor.now) (N.faults v.new.nor.now)) }
-    ensures same { IsSameView v.old v.new }
-    ensures wrote { v.new.wrote ≡ true }
-    ensures changes { Changes N.NorState v.old.nor.now v.new.nor.now (IsPlacing v.old.geometry page (placed_page v.old.geometry kind tag v.old.work.now)) }
-    ensures done { N.tells v.old.nor.now → OnOk result (N.bytes v.new.nor.now ≡ with_page v.old.geometry page (placed_page v.old.geometry kind tag v.old.work.now) (N.bytes v.old.nor.now)) }
-    ensures counted { StandsAgain v.old v.new result }
-    ensures few { N.device_writes v.new.nor.now ≤ N.device_writes v.old.nor.now + 3 }
-{
-    let before = sort_before(v, page);
-    program_page(v, page, kind, tag)?;
-    recount(v, page, before?)
-}
-
-/// Finishes a page that was placed: one program that clears FINAL, one bit.
-#[tactic(auto, using(flash_view::proofs::Looking::same_then))]
-pub fn finish<N: Nor>(v: &mut View<'_, N>, page: u16) -> Result<(), Failed>
-    requires page { IsEntryPage v.old.geometry page }
-    ensures cause { OnErr result (Rose (N.faults v.old.nor.now) (N.faults v.new.nor.now)) }
-    ensures same { IsSameView v.old v.new }
-    ensures wrote { v.new.wrote ≡ true }
-    ensures changes { Changes N.NorState v.old.nor.now v.new.nor.now (HalfProgrammed (page * v.old.geometry.page + 4) (0xFD ∷ [])) }
-    ensures done { N.tells v.old.nor.now → OnOk result (N.bytes v.new.nor.now ≡ programmed (N.bytes v.old.nor.now) (page * v.old.geometry.page + 4) (0xFD ∷ [])) }
-    ensures counted { entry_of v.old.geometry (N.bytes v.old.nor.now) page ≢ 0xFFFF → StandsAgain v.old v.new result }
-    ensures few { N.device_writes v.new.nor.now ≤ N.device_writes v.old.nor.now + 1 }
-{
-    let before = sort_before(v, page);
-    let erased = Flags::from_bits(0xFF);
-    v.program_in(page, 4, &[erased.finished().bits()])?;
-    recount(v, page, before?)
-}
-
 // The program that finishes a page that was placed: it clears FINAL, one bit.
 fn program_final<N: Nor>(v: &mut View<'_, N>, page: u16) -> Result<(), Failed>
     requires page { IsEntryPage v.old.geometry page }
@@ -115,7 +78,8 @@ fn program_final<N: Nor>(v: &mut View<'_, N>, page: u16) -> Result<(), Failed>
     ensures wrote { v.new.wrote ≡ true }
     ensures rows { v.new.rows.now ≡ v.old.rows.now }
     ensures changes { Changes N.NorState v.old.nor.now v.new.nor.now (HalfProgrammed (page * v.old.geometry.page + 4) (0xFD ∷ [])) }
-    ensures done { N.tells v.old.nor.now → OnOk result (N.bytes v.new.nor.now ≡ programmed (N.bytes v.old.nor.now) (page * v.old.geometry.page + 4) (0xFD ∷ [])) }
+    ensures done { N.tells v.old.nor.now →
+        OnOk result (N.bytes v.new.nor.now ≡ programmed (N.bytes v.old.nor.now) (page * v.old.geometry.page + 4) (0xFD ∷ [])) }
     ensures few { N.device_writes v.new.nor.now ≤ N.device_writes v.old.nor.now + 1 }
 {
     let erased = Flags::from_bits(0xFF);
@@ -127,11 +91,12 @@ fn program_final<N: Nor>(v: &mut View<'_, N>, page: u16) -> Result<(), Failed>
 fn program_put<N: Nor>(v: &mut View<'_, N>, page: u16, kind: Kind, tag: Tag) -> Result<(), Failed>
     requires page { IsEntryPage v.old.geometry page }
     requires id { (1 ≤ tag.id) × (tag.id ≤ 0x7FFE) }
-    ensures step { Stepped failed v.old v.new result (putting page kind tag v.old.work.now) }
+    ensures cause { OnErr result (Rose (N.faults v.old.nor.now) (N.faults v.new.nor.now)) }
     ensures same { IsSameView v.old v.new }
     ensures wrote { v.new.wrote ≡ true }
-    ensures told { N.tells v.old.nor.now → N.tells v.new.nor.now }
-    ensures told_before { N.tells v.new.nor.now → N.tells v.old.nor.now }
+    ensures changes { Changes N.NorState v.old.nor.now v.new.nor.now (IsPutting v.old.geometry page (placed_page v.old.geometry kind tag v.old.work.now)) }
+    ensures done { N.tells v.old.nor.now →
+        OnOk result (N.bytes v.new.nor.now ≡ put_by v.old.geometry page (placed_page v.old.geometry kind tag v.old.work.now) (N.bytes v.old.nor.now)) }
     ensures only { N.tells v.old.nor.now → OneChanges v.old.geometry page (N.bytes v.old.nor.now) (N.bytes v.new.nor.now) }
     ensures rows { v.new.rows.now ≡ v.old.rows.now }
     ensures used { N.tells v.old.nor.now → OnOk result (entry_of v.old.geometry (N.bytes v.new.nor.now) page ≢ 0xFFFF) }
@@ -141,14 +106,17 @@ fn program_put<N: Nor>(v: &mut View<'_, N>, page: u16, kind: Kind, tag: Tag) -> 
     program_final(v, page)
 }
 
-/// Puts the page that is being built: places it, and finishes it by a fourth program, the one that makes it live. At a
-/// cut it is live or not, and all else is as it was. The page and its entry are to be erased, in a block with its magic.
+// These programs, after which the page's entry is counted.
 #[tactic(auto, using(flash_view::proofs::Looking::same_then))]
-pub fn put_page<N: Nor>(v: &mut View<'_, N>, page: u16, kind: Kind, tag: Tag) -> Result<(), Failed>
+fn put_counted<N: Nor>(v: &mut View<'_, N>, page: u16, kind: Kind, tag: Tag) -> Result<(), Failed>
     requires page { IsEntryPage v.old.geometry page }
     requires id { (1 ≤ tag.id) × (tag.id ≤ 0x7FFE) }
-    ensures step { Stepped failed v.old v.new result (putting page kind tag v.old.work.now) }
+    ensures cause { OnErr result (Rose (N.faults v.old.nor.now) (N.faults v.new.nor.now)) }
+    ensures same { IsSameView v.old v.new }
     ensures wrote { v.new.wrote ≡ true }
+    ensures changes { Changes N.NorState v.old.nor.now v.new.nor.now (IsPutting v.old.geometry page (placed_page v.old.geometry kind tag v.old.work.now)) }
+    ensures done { N.tells v.old.nor.now →
+        OnOk result (N.bytes v.new.nor.now ≡ put_by v.old.geometry page (placed_page v.old.geometry kind tag v.old.work.now) (N.bytes v.old.nor.now)) }
     ensures counted { StandsAgain v.old v.new result }
     ensures few { N.device_writes v.new.nor.now ≤ N.device_writes v.old.nor.now + 4 }
 {
@@ -157,7 +125,23 @@ pub fn put_page<N: Nor>(v: &mut View<'_, N>, page: u16, kind: Kind, tag: Tag) ->
     recount(v, page, before?)
 }
 
-/// What `place` and `finish` leave is what the laws of a put speak of: a placed page, and the program of its
+/// Puts the page that is being built, by four programs in this order: its entry in the lookup page, its header with USED
+/// cleared, the bytes behind the header, and FINAL, one bit, which makes the page live. At a cut it is live or not, and all
+/// else is as it was. The page and its entry are to be erased, in a block with its magic; the id without bit 15 is from 1 to
+/// 0x7FFE.
+pub fn put_page<N: Nor>(v: &mut View<'_, N>, page: u16, kind: Kind, tag: Tag) -> Result<(), Failed>
+    requires page { IsEntryPage v.old.geometry page }
+    requires id { (1 ≤ tag.id) × (tag.id ≤ 0x7FFE) }
+    ensures step { Stepped failed v.old v.new result (putting page kind tag v.old.work.now) }
+    ensures wrote { v.new.wrote ≡ true }
+    ensures counted { StandsAgain v.old v.new result }
+    ensures order { Changes N.NorState v.old.nor.now v.new.nor.now (IsPutting v.old.geometry page (placed_page v.old.geometry kind tag v.old.work.now)) }
+    ensures few { N.device_writes v.new.nor.now ≤ N.device_writes v.old.nor.now + 4 }
+{
+    put_counted(v, page, kind, tag)
+}
+
+/// What the first three programs of a put and the fourth leave is what the laws of a put speak of: a placed page, and the program of its
 /// finished flags.
 pub fn puts_by_programs()
     ensures places { (g : Geometry) → ProgramsPlace g }

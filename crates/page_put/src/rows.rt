@@ -40,7 +40,8 @@ pub(crate) fn is_counted<N: Nor>(v: &mut View<'_, N>, page: u16) -> Result<bool,
     ensures looks { OnlyLooks v.old v.new }
     ensures stood { IfOk result (λ stands. OnTrue stands ((v.old.counted ≡ true) × IsEntryPage v.old.geometry page)) }
     ensures used { N.tells v.old.nor.now → IfOk result (λ stands. OnTrue stands (entry_of v.old.geometry (N.bytes v.old.nor.now) page ≢ 0xFFFF)) }
-    ensures all { N.tells v.old.nor.now → v.old.counted ≡ true → IsUsedPage v.old.geometry (N.bytes v.old.nor.now) page → IfOk result (λ stands. stands ≡ true) }
+    ensures all { N.tells v.old.nor.now → v.old.counted ≡ true → IsUsedPage v.old.geometry (N.bytes v.old.nor.now) page →
+        IfOk result (λ stands. stands ≡ true) }
 {
     if !v.counted || !is_entry_page(&v.geometry, page) {
         return Ok(false);
@@ -107,7 +108,8 @@ pub(crate) fn recount<N: Nor>(
     requires was { N.tells v.old.nor.now → IfSome before (λ sort. WasCounted v.old.geometry page sort v.old.rows.now (N.bytes v.old.nor.now)) }
     ensures cause { OnErr result (Rose (N.faults v.old.nor.now) (N.faults v.new.nor.now)) }
     ensures counts { OnlyCounts v.old v.new }
-    ensures stands { N.tells v.old.nor.now → is_some before ≡ true → entry_of v.old.geometry (N.bytes v.old.nor.now) page ≢ 0xFFFF → OnOk result (v.new.counted ≡ true) }
+    ensures stands { N.tells v.old.nor.now → is_some before ≡ true → entry_of v.old.geometry (N.bytes v.old.nor.now) page ≢ 0xFFFF →
+        OnOk result (v.new.counted ≡ true) }
 {
     v.counted = false;
     let Some(before) = before else {

@@ -1,6 +1,7 @@
 -- An index page that names a copy of a data page in the place of the data page leads to the same file.
 use Rattle.std.proofs.Common.{◌≡◌, ◌≢◌, ℕ, ◌+◌, ◌-◌, ◌*◌, ◌/◌, ◌%◌, ◌<◌, ◌≤◌, List, [], slice_index, slice_range, true, false, ◌==◌, Option, Some, ap, refl, sym, ◌∙◌, arith, ⊎_elim, inl, inr, subst}
 use Rattle.std.specs.Prelude.{is_some, unwrap_or}
+use Rattle.std.proofs.Math.Nat.{div-add-mod}
 use Rattle.std.proofs.lemmas.Bool.{cases_lt, cases_eq, lt-ltb, le-ltb, ne_eqb, eq-eqb}
 use Rattle.geometry.specs.declared.geometry.Geometry.{Geometry}
 use Rattle.geometry.specs.Numbers.{head_slots, span_slots}
@@ -11,7 +12,7 @@ use Rattle.nor_core.specs.Flash.{SameOutside, word_at}
 use Rattle.page_layout.proofs.Stays.{word_stays, range_stays, name_stays}
 use Rattle.image_model.specs.Headers.{obj_id, span_of, size_of, name_of}
 use Rattle.image_model.specs.Live.{Live}
-use Rattle.image_model.specs.Files.{data_of, data_page, span_bytes, slot_at, index_span}
+use Rattle.image_model.specs.Files.{further, data_of, data_page, span_bytes, slot_at, index_span}
 use Rattle.image_laws.specs.Reindex.{Reindexes, slot_word, now_data, now_bytes}
 use Rattle.renew_laws.proofs.Leading.{copies-same}
 use Rattle.image_laws.proofs.Places.{same_page}
@@ -31,6 +32,20 @@ slot_behind g t =
     (λ (low : t < head_slots g). rw (lt-ltb t (head_slots g) low) (omega arith))
     (λ (high : head_slots g ≤ t). rw (le-ltb t (head_slots g) high) (omega arith))
     (cases_lt t (head_slots g))
+
+-- those of spans behind one another, in a further index page
+rests_rise : (each x y : ℕ) → x ≤ y → x / each ≡ y / each → y - x + x % each ≡ y % each
+rests_rise each x y up same =
+    let one : each * (x / each) + x % each ≡ x = div-add-mod x each in
+    let two : each * (y / each) + y % each ≡ y = div-add-mod y each in
+    let product : each * (x / each) ≡ each * (y / each) = ap (λ (n : ℕ). each * n) same in
+    omega (arith, one, two, product, up)
+
+pub slots_rise : (g : Geometry) (t u : ℕ) → head_slots g ≤ t → t ≤ u → further g t ≡ further g u → slot_at g u ≡ slot_at g t + 2 * (u - t)
+slots_rise g t u high up same =
+    let quotient : (t - head_slots g) / span_slots g ≡ (u - head_slots g) / span_slots g = omega (arith, same) in
+    let rest = rests_rise (span_slots g) (t - head_slots g) (u - head_slots g) (omega (arith, up)) quotient in
+    rw (le-ltb t (head_slots g) high) (rw (le-ltb u (head_slots g) (omega (arith, high, up))) (omega (arith, rest, high, up)))
 
 -- in a header page behind the meta bytes
 pub slot_far : (g : Geometry) (t : ℕ) → index_span g t ≡ 0 → 45 + g.meta ≤ slot_at g t

@@ -1,5 +1,6 @@
 -- The copy of an index page.
-use Rattle.std.specs.Prelude.{◌≡◌, ℕ, ◌+◌, ◌-◌, ◌*◌, ◌%◌, ◌<◌, ◌≤◌, ◌⊎◌, List, Option, Some, None, length, min, slice_index, ◌==◌, if◌then◌else◌, option_and_then}
+use Rattle.std.specs.Prelude.{◌≡◌, ℕ, ◌+◌, ◌-◌, ◌*◌, ◌%◌, ◌<◌, ◌≤◌, ◌⊎◌, List, Option, Some, None, length, min, slice_index, ◌==◌, if◌then◌else◌}
+use Rattle.std.specs.Prelude.{option_and_then}
 use Rattle.geometry.specs.declared.geometry.Geometry.{Geometry}
 use Rattle.geometry.specs.Numbers.{head_slots, span_slots}
 use Rattle.table_model.specs.Room.{data_pages}
@@ -12,7 +13,8 @@ use Rattle.image_model.specs.Files.{index_page}
 abbrev pub kept_of : Geometry → (span count : ℕ) → ℕ
 kept_of g span count = if span == 0 then min count (head_slots g) else min (count - (head_slots g + (span - 1) * span_slots g)) (span_slots g)
 
--- A copy of an index page of a span, of whose page numbers so many are kept: the others are 0xFFFF, all bytes that mean nothing are 0xFF, and behind a name are zeros.
+-- A copy of an index page of a span, of whose page numbers so many are kept: the others are 0xFFFF, all bytes that mean nothing are 0xFF,
+-- and behind a name are zeros.
 pub record IsCopy (g : Geometry) (span kept : ℕ) (old new : List ℕ) : Type 0 where
   pub size : length new ≡ length old
   pub head : (k : ℕ) → k < 5 → slice_index new k ≡ slice_index old k

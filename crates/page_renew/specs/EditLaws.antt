@@ -45,11 +45,13 @@ Adds (GrowBy size page) = Unit {0}
 
 -- An edit that adds none leads to that file,
 abbrev pub EditSays : Geometry → Type 0
-EditSays g = (a b : List ℕ) (id h : ℕ) (head : List ℕ) (f : File) (beside : ℕ → Bool) (edit : Edit) → Primed g id h head f beside a b → AddsNone edit id (size_of head) (table_of g b) → CanSay g b id h edit head (edited_file edit f)
+EditSays g = (a b : List ℕ) (id h : ℕ) (head : List ℕ) (f : File) (beside : ℕ → Bool) (edit : Edit) → Primed g id h head f beside a b →
+    AddsNone edit id (size_of head) (table_of g b) → CanSay g b id h edit head (edited_file edit f)
 
 -- and one that keeps the size leaves a tidy image tidy.
 abbrev pub EditTidies : Geometry → Type 0
-EditTidies g = (a c : List ℕ) (id h : ℕ) (head : List ℕ) (f f' : File) (edit : Edit) → Primed g id h head f (λ r. false) a a → edited_size edit (size_of head) ≡ size_of head → EditDone g id edit f' a c → IsTidy g c
+EditTidies g = (a c : List ℕ) (id h : ℕ) (head : List ℕ) (f f' : File) (edit : Edit) → Primed g id h head f (λ r. false) a a →
+    edited_size edit (size_of head) ≡ size_of head → EditDone g id edit f' a c → IsTidy g c
 
 -- a live page past these counts of index and data pages
 abbrev pub past_of : (index pages : ℕ) → Option (List ℕ) → Bool
@@ -58,7 +60,8 @@ past_of index pages (Some page) = is_past index pages page
 
 -- One that cuts a file leaves a tidy image tidy but for the pages of its id past the new counts.
 abbrev pub CutLeaves : Geometry → Type 0
-CutLeaves g = (a c : List ℕ) (id h : ℕ) (head : List ℕ) (f f' : File) (size : ℕ) → Primed g id h head f (λ r. false) a a → size ≤ size_of head → EditDone g id (Cut size) f' a c →
+CutLeaves g = (a c : List ℕ) (id h : ℕ) (head : List ℕ) (f f' : File) (size : ℕ) → Primed g id h head f (λ r. false) a a → size ≤ size_of head →
+    EditDone g id (Cut size) f' a c →
     Idles g (λ r. past_of (index_pages g size) (data_pages g size) (own (live_at g c) id r)) c
 
 -- An edit adds these bytes: they stand behind the old size in data page z, to which the edited header page leads.
@@ -73,18 +76,22 @@ pub record Grows (g : Geometry) (b : List ℕ) (id : ℕ) (head z bytes : List �
 
 -- It leads to the file with these bytes at its end,
 abbrev pub GrowSays : Geometry → Type 0
-GrowSays g = (a b : List ℕ) (id h : ℕ) (head z bytes : List ℕ) (f : File) (beside : ℕ → Bool) (edit : Edit) → Primed g id h head f beside a b → Grows g b id head z bytes edit → CanSay g b id h edit head (written (length f.bytes) bytes f)
+GrowSays g = (a b : List ℕ) (id h : ℕ) (head z bytes : List ℕ) (f : File) (beside : ℕ → Bool) (edit : Edit) → Primed g id h head f beside a b →
+    Grows g b id head z bytes edit → CanSay g b id h edit head (written (length f.bytes) bytes f)
 
 -- and leaves the image tidy where the pages that were put beside serve the edited header page.
 abbrev pub GrowTidies : Geometry → Type 0
-GrowTidies g = (a b c : List ℕ) (id h : ℕ) (head z bytes : List ℕ) (f f' : File) (beside : ℕ → Bool) (edit : Edit) → Primed g id h head f beside a b → Grows g b id head z bytes edit →
+GrowTidies g = (a b c : List ℕ) (id h : ℕ) (head z bytes : List ℕ) (f f' : File) (beside : ℕ → Bool) (edit : Edit) → Primed g id h head f beside a b →
+    Grows g b id head z bytes edit →
     ((y : List ℕ) → IsEdited g head edit y → (r : ℕ) → beside r ≡ true → serves g (own (live_at g b) id) y r ≡ true) → EditDone g id edit f' b c →
     IsTidy g c × (table_of g c ≡ put_file (written (length f.bytes) bytes f) (table_of g a))
 
 -- The header page keeps the entries of the spans below both page counts,
 abbrev pub EditKeepsEntries : Geometry → Type 0
-EditKeepsEntries g = (x y : List ℕ) (edit : Edit) → IsEdited g x edit y → (t : ℕ) → t < data_pages g (size_of x) → t < data_pages g (edited_size edit (size_of x)) → t < head_slots g → slot_word g y t ≡ slot_word g x t
+EditKeepsEntries g = (x y : List ℕ) (edit : Edit) → IsEdited g x edit y → (t : ℕ) → t < data_pages g (size_of x) →
+    t < data_pages g (edited_size edit (size_of x)) → t < head_slots g → slot_word g y t ≡ slot_word g x t
 
 -- and names the data page of the span behind the last, where it has its entry.
 abbrev pub EditNamesNext : Geometry → Type 0
-EditNamesNext g = (x y : List ℕ) (size page : ℕ) → IsEdited g x (GrowBy size page) y → data_pages g (size_of x) < head_slots g → slot_word g y (data_pages g (size_of x)) ≡ page
+EditNamesNext g = (x y : List ℕ) (size page : ℕ) → IsEdited g x (GrowBy size page) y → data_pages g (size_of x) < head_slots g →
+    slot_word g y (data_pages g (size_of x)) ≡ page

@@ -1,5 +1,6 @@
 -- What a header page says, and what an edit makes of it.
-use Rattle.std.specs.Prelude.{◌≡◌, ◌≢◌, ℕ, ◌+◌, ◌*◌, ◌<◌, ◌≤◌, List, length, All, min, ◌==◌, nat_lt, Option, Some, if◌then◌else◌, take, slice_index, slice_range}
+use Rattle.std.specs.Prelude.{◌≡◌, ◌≢◌, ℕ, ◌+◌, ◌*◌, ◌<◌, ◌≤◌, List, length, All, min, ◌==◌, nat_lt, Option, Some, if◌then◌else◌, take, slice_index}
+use Rattle.std.specs.Prelude.{slice_range}
 use Rattle.geometry.specs.declared.geometry.Geometry.{Geometry}
 use Rattle.geometry.specs.Numbers.{head_slots}
 use Rattle.table_model.specs.Room.{data_pages}
@@ -44,7 +45,8 @@ pub record Says (g : Geometry) (h : Header) (y : List ℕ) : Type 0 where
 
 -- a header with no page number from a page count on
 abbrev pub cut_at : ℕ → Header → Header
-cut_at count h = record { id = h.id; span = h.span; kind = h.kind; size = h.size; name = h.name; meta = h.meta; entry = λ t. if nat_lt t count then h.entry t else 0xFFFF }
+cut_at count h =
+    record { id = h.id; span = h.span; kind = h.kind; size = h.size; name = h.name; meta = h.meta; entry = λ t. if nat_lt t count then h.entry t else 0xFFFF }
 
 -- ---- what an edit makes of each field, where the file had so many data pages
 
@@ -78,7 +80,15 @@ edited_entry (Grow size) count entry t = entry t
 edited_entry (GrowBy size page) count entry t = if t == count then page else entry t
 
 abbrev pub edited : Edit → ℕ → Header → Header
-edited edit count h = record { id = h.id; span = h.span; kind = h.kind; size = edited_size edit h.size; name = edited_name edit h.name; meta = edited_meta edit h.meta; entry = edited_entry edit count h.entry }
+edited edit count h = record {
+  id = h.id;
+  span = h.span;
+  kind = h.kind;
+  size = edited_size edit h.size;
+  name = edited_name edit h.name;
+  meta = edited_meta edit h.meta;
+  entry = edited_entry edit count h.entry;
+}
 
 -- Page y says what header page x says, with the edit done; of its page numbers those below both page counts are kept.
 abbrev pub IsEdited : Geometry → (x : List ℕ) → Edit → (y : List ℕ) → Type 0
@@ -101,7 +111,8 @@ TakesNext g _ size = Unit {0}
 
 -- In the new bytes the entry of a span names a data page, where a header page has it.
 abbrev pub IsNamed : Geometry → (span page : ℕ) → (old new : List ℕ) → Type 0
-IsNamed g span page old new = (head_slots g ≤ span → new ≡ old) × (span < head_slots g → (word_at new (45 + g.meta + 2 * span) ≡ page) × SameOutside (45 + g.meta + 2 * span) 2 old new)
+IsNamed g span page old new =
+    (head_slots g ≤ span → new ≡ old) × (span < head_slots g → (word_at new (45 + g.meta + 2 * span) ≡ page) × SameOutside (45 + g.meta + 2 * span) 2 old new)
 
 -- The first bytes are page `header` edited, and they and the page's flags are bytes.
 pub record HasEdited (g : Geometry) (image : List ℕ) (header : ℕ) (edit : Edit) (work : List ℕ) : Type 0 where

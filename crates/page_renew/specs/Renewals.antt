@@ -69,7 +69,8 @@ pub record CanRenew (g : Geometry) (image : List ℕ) (id o to : ℕ) (edit : Ed
   pub kind : is_data_block g image (block_of g to) ≡ false
   pub room : CanTake g image to
 
--- Done, the file is in the table. Page y, put at `to`, has taken the place of header page o, which it is with the edit done, and the image is tidy but for the pages of the id that y doesn't need.
+-- Done, the file is in the table. Page y, put at `to`, has taken the place of header page o, which it is with the edit done,
+-- and the image is tidy but for the pages of the id that y doesn't need.
 pub record EditDone (g : Geometry) (id : ℕ) (edit : Edit) (f : File) (was now : List ℕ) : Type 0 where
   pub table : table_of g now ≡ put_file f (table_of g was)
   pub o : ℕ

@@ -50,7 +50,8 @@ pub fn build_copy<N: Nor>(v: &mut View<'_, N>, page: u16) -> Result<Tag, Failed>
     requires page { page < page_count v.old.geometry }
     ensures cause { OnErr result (Rose (N.faults v.old.nor.now) (N.faults v.new.nor.now)) }
     ensures looks { OnlyLooks v.old v.new }
-    ensures told { N.tells v.old.nor.now → is_index_page (live_at v.old.geometry (N.bytes v.old.nor.now) page) ≡ true → IfOk result (λ tag. IsBuilt v.old.geometry (N.bytes v.old.nor.now) page tag v.new.work.now) }
+    ensures told { N.tells v.old.nor.now → is_index_page (live_at v.old.geometry (N.bytes v.old.nor.now) page) ≡ true →
+        IfOk result (λ tag. IsBuilt v.old.geometry (N.bytes v.old.nor.now) page tag v.new.work.now) }
 {
     let head = v.header(page)?;
     let id = head.object();
@@ -89,7 +90,8 @@ pub fn build_renamed<N: Nor>(
     requires index { index < page_count v.old.geometry }
     ensures cause { OnErr result (Rose (N.faults v.old.nor.now) (N.faults v.new.nor.now)) }
     ensures looks { OnlyLooks v.old v.new }
-    ensures told { N.tells v.old.nor.now → is_index_page (live_at v.old.geometry (N.bytes v.old.nor.now) index) ≡ true → OnOk result (IsRenamed v.old.geometry (N.bytes v.old.nor.now) index span to v.new.work.now) }
+    ensures told { N.tells v.old.nor.now → is_index_page (live_at v.old.geometry (N.bytes v.old.nor.now) index) ≡ true →
+        OnOk result (IsRenamed v.old.geometry (N.bytes v.old.nor.now) index span to v.new.work.now) }
 {
     build_copy(v, index)?;
     let g = v.geometry;

@@ -55,7 +55,8 @@ pub fn find_home<N: Nor>(v: &mut View<'_, N>, id: u16) -> Result<Option<Found>, 
     ensures looks { OnlyLooks v.old v.new }
     ensures entry { IfOk result (λ found. IfSome found (λ f. IsEntryPage v.old.geometry f.header)) }
     ensures id { IfOk result (λ found. IfSome found (λ f. (1 ≤ id) × (id ≤ 0x7FFE))) }
-    ensures told { N.tells v.old.nor.now → IsTidy v.old.geometry (N.bytes v.old.nor.now) → IfOk result (λ found. IsHome v.old.geometry (N.bytes v.old.nor.now) id found) }
+    ensures told { N.tells v.old.nor.now → IsTidy v.old.geometry (N.bytes v.old.nor.now) →
+        IfOk result (λ found. IsHome v.old.geometry (N.bytes v.old.nor.now) id found) }
 {
     let Some(header) = v.seek_header(id)? else {
         return Ok(None);
@@ -81,7 +82,8 @@ pub fn seek_index<N: Nor>(v: &mut View<'_, N>, id: u16, span: u32) -> Result<Opt
     ensures cause { OnErr result (Rose (N.faults v.old.nor.now) (N.faults v.new.nor.now)) }
     ensures looks { OnlyLooks v.old v.new }
     ensures inside { IfOk result (λ page. IfSome page (λ p. p < page_count v.old.geometry)) }
-    ensures told { N.tells v.old.nor.now → IsTidy v.old.geometry (N.bytes v.old.nor.now) → IfOk result (λ page. page ≡ index_page v.old.geometry (own (live_at v.old.geometry (N.bytes v.old.nor.now)) id) span) }
+    ensures told { N.tells v.old.nor.now → IsTidy v.old.geometry (N.bytes v.old.nor.now) →
+        IfOk result (λ page. page ≡ index_page v.old.geometry (own (live_at v.old.geometry (N.bytes v.old.nor.now)) id) span) }
 {
     if span == 0 {
         return v.seek_header(id);

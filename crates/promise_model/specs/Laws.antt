@@ -39,10 +39,12 @@ pub record IsGood (g : Geometry) (s : State) (script : List ℕ) : Type 0 where
 -- Then each image that a power cut in a run of the script may leave, whatever calls of it the run came to, keeps the promises that are in force
 -- where so many calls were answered.
 abbrev pub CutsKeep : Geometry → Type 0
-CutsKeep g = (s : State) (script : List ℕ) → IsGood g s script → (done : List RunCall) (later : List Ask) → calls script ≡ asks_of done ++ later → AreFair g (settled_at s) done →
+CutsKeep g = (s : State) (script : List ℕ) → IsGood g s script → (done : List RunCall) (later : List Ask) → calls script ≡ asks_of done ++ later →
+    AreFair g (settled_at s) done →
     (said image : List ℕ) → (cut : IsCut g (settled_at s) done said image) → KeepsAll g s script (length cut.front) (table_of g image)
 
 -- So does the table behind the calls that the run came to.
 abbrev pub EndsKeep : Geometry → Type 0
-EndsKeep g = (s : State) (script : List ℕ) → IsGood g s script → (done : List RunCall) (later : List Ask) → calls script ≡ asks_of done ++ later → AreFair g (settled_at s) done →
+EndsKeep g = (s : State) (script : List ℕ) → IsGood g s script → (done : List RunCall) (later : List Ask) → calls script ≡ asks_of done ++ later →
+    AreFair g (settled_at s) done →
     KeepsAll g s script (length done) (after_all g (settled_at s) done).state.table

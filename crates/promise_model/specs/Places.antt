@@ -43,7 +43,8 @@ outlasts p = is_lasting p.form
 
 -- The promises in force behind a line of that number, at which the table is `here`, and where the next `#! end` is `there`.
 abbrev pub in_force : List Promise → ℕ → Sort → (here there : List File) → List Promise
-in_force given n (Promises form names) here there = given ++ (record { line = n; form = form; names = names; here = bytes_of names here; there = bytes_of names there } ∷ [])
+in_force given n (Promises form names) here there =
+    given ++ (record { line = n; form = form; names = names; here = bytes_of names here; there = bytes_of names there } ∷ [])
 in_force given n Ends here there = filter outlasts given
 in_force given n _ here there = given
 

@@ -111,7 +111,8 @@ HasNoFault script = first_fault false 1 (lines script) ≡ None
 abbrev pub IsFollowed : Geometry → State → List ℕ → Type 0
 IsFollowed g s script = HasNoFault script × (first_tight g (settled_at s) 1 (lines script) ≡ None)
 
--- A rehearsal of a script tells what is wrong with it, else which call may be tight, else the first place and table at which a promise is broken, or that none is.
+-- A rehearsal of a script tells what is wrong with it, else which call may be tight, else the first place and table at which a promise is broken,
+-- or that none is.
 abbrev pub Tells : Geometry → State → List ℕ → Told → Type 0
 Tells g s script (IsFaulty fault) = first_fault false 1 (lines script) ≡ Some fault
 Tells g s script (MayBeTight line) = HasNoFault script × (first_tight g (settled_at s) 1 (lines script) ≡ Some line)

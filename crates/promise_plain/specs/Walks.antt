@@ -11,7 +11,8 @@ use Rattle.flat_plain.specs.Moments.{moment_of, geometry_of}
 use Rattle.promise_model.specs.Lines.{Sort, Calls, Ends, sort_of}
 use Rattle.promise_model.specs.Promises.{Promise}
 use Rattle.promise_model.specs.Places.{Place, places, moment_behind, in_force}
-use Rattle.promise_model.specs.Verdicts.{Broken, FindsTable, FindsPlace, first_fault, is_tight, first_tight, promise_count, table_count, Told, IsFaulty, MayBeTight, AllKept, NotKept}
+use Rattle.promise_model.specs.Verdicts.{Broken, FindsTable, FindsPlace, first_fault, is_tight, first_tight, promise_count, table_count, Told, IsFaulty}
+use Rattle.promise_model.specs.Verdicts.{MayBeTight, AllKept, NotKept}
 use Rattle.promise_model.specs.Texts.{steps_text}
 use Rattle.flat_plain.specs.declared.file.PlainFile.{PlainFile}
 use Rattle.flat_plain.specs.declared.moment.PlainMoment.{PlainMoment}
@@ -58,7 +59,8 @@ pub record PassesOn (s : Sort) (p next : Passed) : Type 0 where
   pub tight : is_tight (geometry_of p.moment) (moment_of p.moment) s ≡ false
   pub moment : moment_of next.moment ≡ moment_behind (geometry_of p.moment) (moment_of p.moment) s
   pub geometry : geometry_of next.moment ≡ geometry_of p.moment
-  pub tables : (later : List (List File)) → map files_of next.tables.items ++ later ≡ map files_of p.tables.items ++ with_end (moment_of p.moment).state.table s later
+  pub tables : (later : List (List File)) →
+      map files_of next.tables.items ++ later ≡ map files_of p.tables.items ++ with_end (moment_of p.moment).state.table s later
 
 -- it is passed, or it is a call that may be tight
 abbrev pub Passes : Sort → Passed → Option Passed → Type 0
@@ -97,7 +99,8 @@ Turns s there w (On next) = GoesOver s there w next
 -- so at the end of a script
 abbrev pub TurnsLast : Walk → Turn → Type 0
 TurnsLast w (Breaks b) = FindsTable (given_of w) w.line 0 (from_settled (moment_of w.moment) []) (Some (broken b))
-TurnsLast w (On last) = FindsTable (given_of w) w.line 0 (from_settled (moment_of w.moment) []) None × (last.tables ≡ w.tables + length (from_settled (moment_of w.moment) []))
+TurnsLast w (On last) = FindsTable (given_of w) w.line 0 (from_settled (moment_of w.moment) []) None
+    × (last.tables ≡ w.tables + length (from_settled (moment_of w.moment) []))
 
 -- what a walk over all places found
 abbrev pub IsWalked : List Place → Turn → Type 0

@@ -75,7 +75,8 @@ pub fn list_tables(
     script: &[u8],
 ) -> Result<Vec<u8>, AllocError>
     requires { length script.now < 2 ^ 31 }
-    ensures { IfOk result (λ text. text.items ≡ places_text (places_of geometry (record { table = map file files.now; slots = replicate slots None }) script.now)) }
+    ensures { IfOk result
+        (λ text. text.items ≡ places_text (places_of geometry (record { table = map file files.now; slots = replicate slots None }) script.now)) }
 {
     let mut text = Vec::new(alloc);
     let mut moment = PlainMoment::first(alloc, geometry, files, slots)?;

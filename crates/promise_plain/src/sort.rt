@@ -1,7 +1,8 @@
 // What a line of a script is.
 ghost use Rattle.std.specs.Prelude.{◌≡◌, ◌≤◌, length, IfOk};
 ghost use Rattle.call_script.specs.Lines.{words};
-ghost use Rattle.promise_model.specs.Lines.{name_of as the_name, names_of as the_names, promise_on, promise_on_one, promised_on, promised, is_marked as the_mark, sort_of};
+ghost use Rattle.promise_model.specs.Lines.{name_of as the_name, names_of as the_names, promise_on, promise_on_one, promised_on, promised};
+ghost use Rattle.promise_model.specs.Lines.{is_marked as the_mark, sort_of};
 ghost use Rattle.promise_plain.specs.Seen.{name_seen, names_seen, marked_seen, line_seen};
 
 use crate::words::{first_word, is_word};

@@ -84,7 +84,13 @@ fn promise_at(
     here: &[PlainFile],
     there: &[PlainFile],
 ) -> Result<PlainPromise, AllocError>
-    ensures { IfOk result (λ p. promise p ≡ record { line = line; form = form; names = map text_seen names.items; here = the_bytes (map text_seen names.items) (map file here.now); there = the_bytes (map text_seen names.items) (map file there.now) }) }
+    ensures { IfOk result (λ p. promise p ≡ record {
+      line = line;
+      form = form;
+      names = map text_seen names.items;
+      here = the_bytes (map text_seen names.items) (map file here.now);
+      there = the_bytes (map text_seen names.items) (map file there.now);
+    }) }
 {
     let here = bytes_copied(alloc, names.as_slice(), here)?;
     let there = bytes_copied(alloc, names.as_slice(), there)?;

@@ -56,5 +56,6 @@ RunKeeps nor g s script old new = KeepsAll g s script 0 s.table × Leaves nor ol
 
 -- Where a rehearsal finds a script good on an image, each run of it on that image keeps the promises.
 abbrev pub RunsKeep : {D X : Type 0} → NorOf D → SourceOf X → Geometry → Type 0
-RunsKeep {D} {X} nor source g = (lent : Lengths) (old new : D) (script after : X) (status : ℕ) → DoesRun nor source g lent old new script after status → source.tells script → nor.tells old →
+RunsKeep {D} {X} nor source g = (lent : Lengths) (old new : D) (script after : X) (status : ℕ) → DoesRun nor source g lent old new script after status →
+    source.tells script → nor.tells old →
     IsGood g (volume_of g lent (nor.bytes old)) (source.left script) → RunKeeps nor g (volume_of g lent (nor.bytes old)) (source.left script) old new

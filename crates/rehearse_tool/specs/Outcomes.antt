@@ -33,7 +33,8 @@ stop_status NoMemory = 15
 -- too long or can't be read; or there is no memory.
 abbrev pub IsStop : Geometry → (image script : List ℕ) → Stop → Type 0
 IsStop g image script (Ends ending) =
-    (check_refusal g image ≡ Some ending) ⊎ ((ending ≡ BoardFault) ⊎ ((check_refusal g image ≡ None) × (((ending ≡ TooLong) × (16777216 < length script)) ⊎ (ending ≡ SourceFault))))
+    (check_refusal g image ≡ Some ending)
+    ⊎ ((ending ≡ BoardFault) ⊎ ((check_refusal g image ≡ None) × (((ending ≡ TooLong) × (16777216 < length script)) ⊎ (ending ≡ SourceFault))))
 IsStop g image script NoMemory = Unit {0}
 
 -- the text and the status that a rehearsal comes to

@@ -20,7 +20,8 @@ use Rattle.rehearse_tool.specs.Words.{wants_tables, IsPlanned}
 -- Each run of a script on that image, with as many descriptors, keeps the promises: what a power cut at any moment of it leaves keeps each
 -- promise that is in force there.
 abbrev pub EachRunKeeps : {D X : Type 0} → NorOf D → SourceOf X → Geometry → Lengths → (image script : List ℕ) → Type 0
-EachRunKeeps {D} {X} nor source g lent image script = (memory : Lengths) (from to : D) (given rest : X) (status : ℕ) → memory.slots ≡ lent.slots → nor.bytes from ≡ image → source.left given ≡ script →
+EachRunKeeps {D} {X} nor source g lent image script = (memory : Lengths) (from to : D) (given rest : X) (status : ℕ) → memory.slots ≡ lent.slots →
+    nor.bytes from ≡ image → source.left given ≡ script →
     DoesRun nor source g memory from to given rest status → source.tells given → nor.tells from → RunKeeps nor g (volume_of g lent image) script from to
 
 -- The promises of a script are kept at each of its places, and how many promises and tables there are is said.
@@ -36,7 +37,8 @@ pub record HasBroken (g : Geometry) (tables : Bool) (s : State) (script text : L
   pub said : text ≡ rehearsal_text tables (NotKept broken) (places_of g s script)
 
 -- A rehearsal of a script on the volume of a device, which is only read; then one text is said, or a front of it where the device failed.
-pub record DoesRehearse {D X : Type 0} (nor : NorOf D) (source : SourceOf X) (g : Geometry) (lent : Lengths) (tables : Bool) (old new : D) (script after : X) (status : ℕ) : Type 0 where
+pub record DoesRehearse {D X : Type 0} (nor : NorOf D) (source : SourceOf X) (g : Geometry) (lent : Lengths) (tables : Bool) (old new : D) (script after : X)
+    (status : ℕ) : Type 0 where
   pub text : List ℕ
   pub wanted : ℕ
   -- nothing is written, and a cut leaves a front of the text
@@ -46,7 +48,8 @@ pub record DoesRehearse {D X : Type 0} (nor : NorOf D) (source : SourceOf X) (g 
   -- whatever board and script tell, it is the status of a verdict, or one of few others
   pub among : IsOutcomeStatus wanted
   -- the verdict on the script, on the table of the chip's bytes, or why there is none
-  pub why : source.tells script → nor.tells old → IsVerdictOn g tables (volume_of g lent (nor.bytes old)) (nor.bytes old) (source.left script) text wanted ⊎ IsStopOn g (nor.bytes old) (source.left script) text wanted
+  pub why : source.tells script → nor.tells old → IsVerdictOn g tables (volume_of g lent (nor.bytes old)) (nor.bytes old) (source.left script) text wanted
+      ⊎ IsStopOn g (nor.bytes old) (source.left script) text wanted
   -- with status 0 the promises are kept at each place ..
   pub kept : source.tells script → nor.tells old → status ≡ 0 → IsKept g tables (volume_of g lent (nor.bytes old)) (source.left script) text
   -- .. so that each power cut in each run of the script on that image keeps them

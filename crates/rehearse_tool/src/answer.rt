@@ -122,7 +122,8 @@ fn tables_said(
     verdict: &Verdict,
 ) -> Result<Vec<u8>, AllocError>
     requires { length script.now < 2 ^ 31 }
-    ensures { IfOk result (λ text. text.items ≡ tables_text tables (told verdict.now) (places_of geometry (record { table = map file files.now; slots = replicate slots None }) script.now)) }
+    ensures { IfOk result (λ text. text.items
+        ≡ tables_text tables (told verdict.now) (places_of geometry (record { table = map file files.now; slots = replicate slots None }) script.now)) }
 {
     if tables && is_judged(verdict) {
         list_tables(alloc, geometry, files, slots, script)
@@ -142,7 +143,8 @@ pub(crate) fn answer_to(
     script: &[u8],
 ) -> Result<Answer, AllocError>
     requires { length script.now < 2 ^ 31 }
-    ensures { IfOk result (λ answer. IsJudged geometry tables (record { table = map file files.now; slots = replicate slots None }) script.now answer.text.items answer.status) }
+    ensures { IfOk result
+        (λ answer. IsJudged geometry tables (record { table = map file files.now; slots = replicate slots None }) script.now answer.text.items answer.status) }
 {
     let verdict = rehearse(alloc, geometry, files, slots, script)?;
     let mut text = tables_said(alloc, geometry, tables, files, slots, script, &verdict)?;

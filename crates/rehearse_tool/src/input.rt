@@ -82,7 +82,8 @@ pub(crate) fn read_script<S: Source>(alloc: Global, script: &mut S) -> Result<Ve
     ensures few { IfOk result (λ text. length text.items ≤ 16777216) }
     ensures long { S.tells script.old → result ≡ Err (Stop.Ends Ending.TooLong) → 16777216 < length (S.left script.old) }
     ensures faults { S.faults script.old ≤ S.faults script.new }
-    ensures cause { IfErr result (λ stop. (stop ≡ Stop.NoMemory) ⊎ ((stop ≡ Stop.Ends Ending.TooLong) ⊎ ((stop ≡ Stop.Ends Ending.SourceFault) × Rose (S.faults script.old) (S.faults script.new)))) }
+    ensures cause { IfErr result (λ stop. (stop ≡ Stop.NoMemory)
+        ⊎ ((stop ≡ Stop.Ends Ending.TooLong) ⊎ ((stop ≡ Stop.Ends Ending.SourceFault) × Rose (S.faults script.old) (S.faults script.new)))) }
 {
     let mut text = Vec::new(alloc);
     while text.len() <= LIMIT {

@@ -54,7 +54,8 @@ fn answer_on(
 ) -> Result<Answer, AllocError>
     requires image { IsImage g image.now }
     requires few { length script.now < 2 ^ 31 }
-    ensures { IfOk result (λ answer. IsJudged g tables (record { table = the_table g image.now; slots = replicate slots None }) script.now answer.text.items answer.status) }
+    ensures { IfOk result
+        (λ answer. IsJudged g tables (record { table = the_table g image.now; slots = replicate slots None }) script.now answer.text.items answer.status) }
 {
     let records = table_of(alloc, &g, image)?;
     let files = files_of(alloc, records.as_slice())?;
@@ -73,7 +74,8 @@ fn perform<B: Board, S: Source>(
 ) -> Result<Answer, Stop>
     requires { IsFitting g (B.unit board.old) (B.size board.old) }
     ensures only { OnlyReads B.NorState board.old board.new }
-    ensures comes { S.tells script.old → B.tells board.old → ComesTo g tables (record { table = the_table g (B.bytes board.old); slots = replicate slots None }) (B.bytes board.old) (S.left script.old) result }
+    ensures comes { S.tells script.old → B.tells board.old →
+        ComesTo g tables (record { table = the_table g (B.bytes board.old); slots = replicate slots None }) (B.bytes board.old) (S.left script.old) result }
     ensures among { IsOutcomeStatus (outcome_status result) }
     ensures board_fault { outcome_status result ≡ 7 → Rose (B.faults board.old) (B.faults board.new) }
     ensures script_fault { outcome_status result ≡ 8 → Rose (S.faults script.old) (S.faults script.new) }
@@ -137,9 +139,11 @@ pub fn rehearse_tool<B: Board, S: Source>(
 ) -> u8
     // What is refused before the chip is read: its closing line is said, and nothing else happens; nothing is taken of the script.
     ensures refused { RefusesIf B.NorState board.old board.new (refusal_of (asked_of B.NorState (map string_bytes words.now) board.old bufs.old)) result }
-    ensures untaken { (ending : AnEnding) → refusal_of (asked_of B.NorState (map string_bytes words.now) board.old bufs.old) ≡ Some ending → script.new ≡ script.old }
+    ensures untaken { (ending : AnEnding) → refusal_of (asked_of B.NorState (map string_bytes words.now) board.old bufs.old) ≡ Some ending →
+        script.new ≡ script.old }
     // All else is a rehearsal on the volume of the words' numbers.
-    ensures rehearses { refusal_of (asked_of B.NorState (map string_bytes words.now) board.old bufs.old) ≡ None → Rehearses B.NorState S.Source (asked_of B.NorState (map string_bytes words.now) board.old bufs.old) board.old board.new script.old script.new result }
+    ensures rehearses { refusal_of (asked_of B.NorState (map string_bytes words.now) board.old bufs.old) ≡ None →
+        Rehearses B.NorState S.Source (asked_of B.NorState (map string_bytes words.now) board.old bufs.old) board.old board.new script.old script.new result }
     // A fault is told only where one was counted.
     ensures board_fault { result ≡ 7 → Rose (B.faults board.old) (B.faults board.new) }
     ensures script_fault { result ≡ 8 → Rose (S.faults script.old) (S.faults script.new) }

@@ -1,8 +1,8 @@
 -- The index pages of a file are there.
-use Rattle.std.proofs.Common.{◌%◌, ◌-◌, ◌≡◌, ℕ, zero, suc, ◌+◌, ◌*◌, ◌/◌, ◌<◌, ◌≤◌, List, true, false, Option, Some, None, Ok, ap, refl, ◌∙◌, arith, ⊎_elim, subst, inl, inr}
+use Rattle.std.proofs.Common.{◌%◌, ◌-◌, ◌≡◌, ℕ, zero, suc, ◌+◌, ◌*◌, ◌/◌, ◌<◌, ◌≤◌, List, true, false, Option, Some, None, Ok, ap, refl, sym, ◌∙◌, arith, ⊎_elim, subst, inl, inr}
 use Rattle.std.specs.Prelude.{is_some, is_none, option_and_then}
 use Rattle.std.specs.Option.{option_map}
-use Rattle.std.proofs.Math.Nat.{div-add-mod, mul-le-mul_left, mul-div_cancel, mul_comm}
+use Rattle.std.proofs.Math.Nat.{div-add-mod, mul-le-mul_left, mul-div_cancel}
 use Rattle.std.proofs.lemmas.Nat.{div-mul-add}
 use Rattle.std.proofs.lemmas.Bool.{cases_lt, lt-ltb, le-ltb}
 use Rattle.geometry.specs.declared.geometry.Geometry.{Geometry}
@@ -69,38 +69,51 @@ primed-places g a b id h head f beside prime = (
 
 -- ---- behind the last span
 
--- m pages in groups of s, the last of them not full
-same_group : (m s : ℕ) → 0 < s → m / s < ceil m s → (0 < m) × ((m - 1) / s ≡ m / s)
-same_group m s pos less =
-    let whole : s * (m / s) + m % s ≡ m = div-add-mod m s in
-    let product : s * (m / s) ≡ m / s * s = mul_comm s (m / s) in
-    let small : m % s < s = omega (arith, pos) in
-    let some : 0 < m % s =
+-- a quotient grows with its number
+quotient_grows : (x y s : ℕ) → 0 < s → x ≤ y → x / s ≤ y / s
+quotient_grows x y s pos less =
     ⊎_elim
-    (λ (x : 0 < m % s). x)
-    (λ (x : m % s ≤ 0).
-    let at : m + s - 1 ≡ m / s * s + (s - 1) = omega (arith, whole, product, x, pos) in
-    let full : ceil m s ≡ m / s = ap (λ (k : ℕ). k / s) at ∙ div-mul-add (m / s) s (s - 1) (omega (arith, pos)) in absurd (omega (arith, less, full)))
-    (cases_lt 0 (m % s)) in
-    let at : m - 1 ≡ m / s * s + (m % s - 1) = omega (arith, whole, product, some) in
-    (omega (arith, whole, some), ap (λ (k : ℕ). k / s) at ∙ div-mul-add (m / s) s (m % s - 1) (omega (arith, small, some)))
+    (λ (fall : y / s < x / s).
+    let one : s * (x / s) + x % s ≡ x = div-add-mod x s in
+    let two : s * (y / s) + y % s ≡ y = div-add-mod y s in
+    let small : y % s < s = omega (arith, pos) in
+    let step : s * (y / s + 1) ≤ s * (x / s) = mul-le-mul_left s (omega (arith, fall)) in
+    let product : s * (y / s + 1) ≡ s * (y / s) + s = omega arith in absurd (omega (arith, one, two, small, step, product, less)))
+    (λ (more : x / s ≤ y / s). more)
+    (cases_lt (y / s) (x / s))
+
+-- m pages fill as many groups of s as end with one of them
+groups_end : (m s : ℕ) → 0 < s → 0 < m → ceil m s ≡ (m - 1) / s + 1
+groups_end m s pos some =
+    let whole : s * ((m - 1) / s) + (m - 1) % s ≡ m - 1 = div-add-mod (m - 1) s in
+    let small : (m - 1) % s < s = omega (arith, pos) in
+    let product : ((m - 1) / s + 1) * s ≡ s * ((m - 1) / s) + s = omega arith in
+    let at : m + s - 1 ≡ ((m - 1) / s + 1) * s + (m - 1) % s = omega (arith, whole, product, some) in
+    ap (λ (k : ℕ). k / s) at ∙ div-mul-add ((m - 1) / s + 1) s ((m - 1) % s) small
 
 pub tail-together : (g : Geometry) → TailTogether g
-tail-together g a b id h r head f prime high at =
+tail-together g a b id h r t head f beside prime apart high past passes =
     let big : 128 ≤ g.page = (sizes g).page in
+    let pos : 0 < span_slots g = omega (arith, big) in
     let n = data_pages g (size_of head) in
-    let below : further g n < index_pages g (size_of head) =
+    let place : (index_page g (own (live_at g b) id) (further g t) ≡ Some r) × (further g t < index_pages g (size_of head)) =
     ⊎_elim
-    (λ (none : false ≡ true). absurd (cc))
-    (λ (v : (index_page g (own (live_at g b) id) (further g n) ≡ Some r) × (further g n < index_pages g (size_of head))). v.1)
-    ((primed-places g a b id h head f (λ (q : ℕ). false) prime).1 r (further g n) (index_passes g (own (live_at g b) id) (further g n) r at)) in
+    (λ (one : beside r ≡ true). let bad : true ≡ false = sym one ∙ apart in absurd (cc))
+    (λ (v : (index_page g (own (live_at g b) id) (further g t) ≡ Some r) × (further g t < index_pages g (size_of head))). v)
+    ((primed-places g a b id h head f beside prime).1 r (further g t) passes) in
     ⊎_elim
     (λ (more : head_slots g < n).
-    let low : further g n < 1 + ceil (n - head_slots g) (span_slots g) = rw (lt-ltb (head_slots g) n more) at below in
-    let w = same_group (n - head_slots g) (span_slots g) (omega (arith, big)) (omega (arith, low)) in
-    let before : n - 1 - head_slots g ≡ n - head_slots g - 1 = omega arith in (
+    let low : further g t < 1 + ceil (n - head_slots g) (span_slots g) = rw (lt-ltb (head_slots g) n more) at place.1 in
+    let end = groups_end (n - head_slots g) (span_slots g) pos (omega (arith, more)) in
+    let before : n - 1 - head_slots g ≡ n - head_slots g - 1 = omega arith in
+    let first : (n - head_slots g - 1) / span_slots g ≤ (n - head_slots g) / span_slots g = quotient_grows (n - head_slots g - 1) (n - head_slots g) (span_slots g) pos (omega arith) in
+    let second : (n - head_slots g) / span_slots g ≤ (t - head_slots g) / span_slots g = quotient_grows (n - head_slots g) (t - head_slots g) (span_slots g) pos (omega (arith, past)) in
+    let last : (n - 1 - head_slots g) / span_slots g + 1 ≡ further g t = ap (λ (k : ℕ). k / span_slots g + 1) before ∙ omega (arith, low, end, first, second) in (
+      place.0,
       omega (arith, more),
-      rw (le-ltb (n - 1) (head_slots g) (omega (arith, more))) (ap (λ (k : ℕ). k / span_slots g + 1) before ∙ ap (λ (k : ℕ). k + 1) w.1),
+      rw (le-ltb (n - 1) (head_slots g) (omega (arith, more))) last,
+      omega (arith, more),
+      omega (arith, low, end, first, second),
     ))
-    (λ (few : n ≤ head_slots g). let low : further g n < 1 = rw (le-ltb (head_slots g) n few) at below in absurd (omega (arith, low)))
+    (λ (few : n ≤ head_slots g). let low : further g t < 1 = rw (le-ltb (head_slots g) n few) at place.1 in absurd (omega (arith, low)))
     (cases_lt (head_slots g) n)

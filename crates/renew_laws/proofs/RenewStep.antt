@@ -297,3 +297,11 @@ pub renew-spares : (g : Geometry) → RenewSpares g
 renew-spares g a b p o id old head f before start all t inside =
     let w = renewed-spares g a b p o id old head f before start all t inside in
     (inr w.0, w.1)
+
+-- the new header page is the one of the file
+pub renewed_head : (g : Geometry) (a b : List ℕ) (p o id : ℕ) (old head : List ℕ) (f : File) → RenewsTo g a p o id old head f → Replaced g p o head a b →
+    (index_page g (own (live_at g b) id) 0 ≡ Some p) × (own (live_at g b) id p ≡ Some head)
+renewed_head g a b p o id old head f start all = (
+  (found_at g a p o id old head f start all.middle all.put.agree all.put.gains b all.kill.agree all.kill.loses).1,
+  header5 g a p o id old head f start all.middle all.put.agree all.put.gains b all.kill.agree all.kill.loses,
+)

@@ -2,6 +2,7 @@
 use Rattle.std.proofs.Common.{◌≡◌, ◌≢◌, ℕ, ◌+◌, ◌-◌, ◌*◌, ◌/◌, ◌%◌, ◌<◌, ◌≤◌, List, [], slice_index, slice_range, true, false, Option, Some, None, ap, refl, sym, ◌∙◌, arith, ⊎_elim, subst}
 use Rattle.std.specs.Prelude.{option_and_then, unwrap_or}
 use Rattle.std.proofs.Math.Nat.{div-add-mod}
+use Rattle.std.proofs.Math.Path.{fun_ext}
 use Rattle.std.proofs.lemmas.Bool.{cases_eq, le-ltb}
 use Rattle.std.proofs.lemmas.Option.{none-some, same_Some}
 use Rattle.geometry.specs.declared.geometry.Geometry.{Geometry}
@@ -11,25 +12,29 @@ use Rattle.table_model.specs.Room.{data_pages}
 use Rattle.image_model.specs.Within.{sizes, page_number}
 use Rattle.image_model.specs.Headers.{names_index, size_of, span_of}
 use Rattle.image_model.specs.Live.{Live, live_at, own}
-use Rattle.image_model.specs.Files.{is_index, index_page, further, entry_number, data_of, data_page, span_bytes, index_span}
+use Rattle.image_model.specs.Files.{is_index, index_page, further, entry_number, data_of, data_page, span_bytes, index_span, slot_at}
 use Rattle.image_laws.specs.Changes.{Gains, Loses}
 use Rattle.image_laws.specs.LiveSteps.{KillDone}
-use Rattle.image_laws.specs.Reindex.{slot_word, now_data}
+use Rattle.image_laws.specs.Reindex.{now_data}
 use Rattle.image_laws.proofs.Finish.{own-parts}
-use Rattle.image_laws.proofs.Judge.{index_passes, index-none}
-use Rattle.image_laws.proofs.Kill.{own-loses, index-loses, bytes-loses, entry-loses}
+use Rattle.image_laws.proofs.Append.{page_there}
+use Rattle.image_laws.proofs.Judge.{IsHeadAtMost, index_passes, entry-same, data-same}
+use Rattle.image_laws.proofs.Kill.{own-loses, index-loses, entry-loses}
 use Rattle.image_laws.proofs.Sounding.{loses-back}
 use Rattle.image_laws.proofs.Tables.{own-gains_other}
 use Rattle.renew_laws.specs.Recopy.{RecopiesTo}
+use Rattle.renew_laws.specs.Renew.{RenewsTo}
 use Rattle.renew_laws.specs.Replace.{Replaced}
-use Rattle.renew_laws.specs.Tails.{HasCleanEntry, HasCleanTail, IsTailReady, TailStays, TailBeside, TailDropped, TailCopied, TailReadied}
+use Rattle.renew_laws.specs.Tails.{HasFreeEntries, HasCleanTail, IsTailReady, TailStays, TailBeside, TailDropped, FreesEntries, TailCopied, TailReadied, TailGrown}
 use Rattle.renew_laws.proofs.Appended.{pages_of}
-use Rattle.renew_laws.proofs.Beside.{beside-index, beside-bytes, beside-data, data_gains, data_first}
+use Rattle.renew_laws.proofs.Beside.{beside-data, data_gains, data_first}
 use Rattle.renew_laws.proofs.Overwritten.{body_at}
 use Rattle.renew_laws.proofs.Spans.{span_page}
 use Rattle.renew_laws.proofs.Serves.{index_there}
+use Rattle.renew_laws.proofs.PutBeside.{gains_own}
 use Rattle.renew_laws.proofs.RecopyCuts.{mine4, mine5, others5}
-use Rattle.renew_laws.proofs.ReindexSteps.{head3, reads3, bytes3, bytes3_other}
+use Rattle.renew_laws.proofs.ReindexSteps.{head3, reads3, three_v, three_other}
+use Rattle.renew_laws.proofs.RenewStep.{renewed_head}
 
 -- a last page that is not full is one of the file's
 last_below : (g : Geometry) (size : ℕ) → size % body g ≢ 0 → size / body g < data_pages g size
@@ -45,7 +50,7 @@ tail-stays g a b id same ready h head at header =
     subst (λ (pages : Live). HasCleanTail g pages head) (sym same) (ready h head (ap (λ (pages : Live). index_page g pages 0) (sym same) ∙ at) (ap (λ (pages : Live). pages h) (sym same) ∙ header))
 
 -- the tail of an id is that of its header page
-ready_from : (g : Geometry) (b : List ℕ) (id k : ℕ) (head : List ℕ) → index_page g (own (live_at g b) id) 0 ≡ Some k → own (live_at g b) id k ≡ Some head → HasCleanTail g (own (live_at g b) id) head → IsTailReady g b id
+pub ready_from : (g : Geometry) (b : List ℕ) (id k : ℕ) (head : List ℕ) → index_page g (own (live_at g b) id) 0 ≡ Some k → own (live_at g b) id k ≡ Some head → HasCleanTail g (own (live_at g b) id) head → IsTailReady g b id
 ready_from g b id k head at header clean h hd at' header' =
     let place : k ≡ h = same_Some k h (sym at ∙ at') in
     let same : head ≡ hd = same_Some head hd (sym header ∙ ap (own (live_at g b) id) place ∙ header') in
@@ -65,12 +70,12 @@ tail-beside g a b p id h page head f0 start put j ready =
     (ready_from g b id h head first header (record {
       bytes = λ z some e. was.bytes z some
           (sym (beside-data g p h id page head f0 (own (live_at g a) id) (own (live_at g b) id) mine start.data_kind start.at start.header start.file (size_of head / body g) (last_below g (size_of head) some)) ∙ e);
-      entry = λ z high e.
-          let at = further g (data_pages g (size_of head)) in
-          let places = beside-index g p h id page head f0 (own (live_at g a) id) (own (live_at g b) id) mine start.data_kind start.at start.header start.file at in
-          let same = beside-bytes g p h id page head f0 (own (live_at g a) id) (own (live_at g b) id) mine start.data_kind start.at start.header start.file (index_page g (own (live_at g a) id) at)
-          (λ k. index-none g (own (live_at g a) id) at p k mine.before) in
-          was.entry z high (sym same ∙ ap (λ (o : Option ℕ). option_and_then (own (live_at g b) id) o) (sym places) ∙ e);
+      entries = λ r t k x is index span high past low below. ⊎_elim
+          (λ (new : r ≡ p).
+          let same : page ≡ x = same_Some page x (sym mine.after ∙ ap (own (live_at g b) id) (sym new) ∙ is) in
+          let bad : false ≡ true = sym start.data_kind ∙ ap names_index same ∙ index in absurd (cc))
+          (λ (old : r ≡ p → ⊥). was.entries r t k x (sym (mine.others r old) ∙ is) index span high past low below)
+          (cases_eq r p);
     })))
     (λ (there : id ≡ j → ⊥). tail-stays g a b j (own-gains_other p page (live_at g a) (live_at g b) put.gains j (λ e. there (sym start.of ∙ e))) ready)
     (cases_eq id j)
@@ -112,9 +117,7 @@ module _ (g : Geometry) (a b : List ℕ) (p : ℕ) (page : List ℕ) (live : liv
       let was = ready h head (sym (places 0) ∙ at) (loses-back p (own (live_at g a) j) (own (live_at g b) j) less h head header) in
       record {
         bytes = λ z some e. was.bytes z some (reads_back head (size_of head / body g) z e);
-        entry = λ z high e.
-            let s = further g (data_pages g (size_of head)) in
-            was.entry z high (sym (bytes-loses g p (own (live_at g a) j) (own (live_at g b) j) less (index_page g (own (live_at g a) j) s) (not_index s)) ∙ ap (λ (o : Option ℕ). option_and_then (own (live_at g b) j) o) (sym (places s)) ∙ e);
+        entries = λ r t k x is index span high past low inside. was.entries r t k x (loses-back p (own (live_at g a) j) (own (live_at g b) j) less r x is) index span high past low inside;
       }
 
 pub tail-dropped : (g : Geometry) → TailDropped g
@@ -124,8 +127,8 @@ tail-dropped g a b p page live kind kill j ready = dropped g a b p page live kin
 
 module _ (g : Geometry) (a b : List ℕ) (p o id h : ℕ) (old page head head' : List ℕ) (f0 f : File) (start : RecopiesTo g a p o id h old page head head' f0 f) (all : Replaced g p o page a b)
     (last : (z : List ℕ) → size_of head % body g ≢ 0 → now_data g (own (live_at g a) id) head page (size_of head / body g) ≡ Some z → (k : ℕ) → 5 + size_of head % body g ≤ k → k < g.page → slice_index z k ≡ 0xFF)
-    (next : head_slots g ≤ data_pages g (size_of head) → index_span g (data_pages g (size_of head)) ≡ span_of old → slot_word g page (data_pages g (size_of head)) ≡ 0xFFFF)
-    (rest : index_span g (data_pages g (size_of head)) ≢ span_of old → HasCleanEntry g (own (live_at g a) id) head) where
+    (next : FreesEntries g old page head)
+    (rest : (r t k : ℕ) (x : List ℕ) → r ≢ o → own (live_at g a) id r ≡ Some x → names_index x ≡ true → span_of x ≡ further g t → head_slots g ≤ t → data_pages g (size_of head) ≤ t → slot_at g t ≤ k → k < g.page → slice_index x k ≡ 0xFF) where
   gains : Gains p page (own (live_at g a) id) (own (live_at g all.middle) id)
   gains = mine4 g a p o id h old page head head' f0 f start all.middle all.put.gains
 
@@ -136,30 +139,28 @@ module _ (g : Geometry) (a b : List ℕ) (p o id h : ℕ) (old page head head' :
   bytes_now z some e =
       last z some (sym (reads3 g (own (live_at g a) id) (own (live_at g all.middle) id) (own (live_at g b) id) id o p h old page head head' f0 f start.pages (page_number g p start.inside) gains loses (size_of head / body g)) ∙ e)
 
-  entry_now : (z : List ℕ) → head_slots g ≤ data_pages g (size_of head) → option_and_then (own (live_at g b) id) (index_page g (own (live_at g b) id) (further g (data_pages g (size_of head)))) ≡ Some z →
-      slot_word g z (data_pages g (size_of head)) ≡ 0xFFFF
-  entry_now z high e =
-      let span : index_span g (data_pages g (size_of head)) ≡ further g (data_pages g (size_of head)) = rw (le-ltb (data_pages g (size_of head)) (head_slots g) high) refl in
+  entries_now : HasFreeEntries g (own (live_at g b) id) (data_pages g (size_of head))
+  entries_now r t k x is index span high past low below =
       ⊎_elim
-      (λ (here : span_of old ≡ further g (data_pages g (size_of head))).
-      let is = bytes3 g (own (live_at g a) id) (own (live_at g all.middle) id) (own (live_at g b) id) id o p h old page head head' f0 f start.pages (page_number g p start.inside) gains loses in
-      let there : option_and_then (own (live_at g b) id) (index_page g (own (live_at g b) id) (span_of old)) ≡ Some z = ap (λ (s : ℕ). option_and_then (own (live_at g b) id) (index_page g (own (live_at g b) id) s)) here ∙ e in
-      let same : page ≡ z = same_Some page z (sym is ∙ there) in
-      ap (λ (x : List ℕ). slot_word g x (data_pages g (size_of head))) (sym same) ∙ next high (span ∙ sym here))
-      (λ (other : span_of old ≡ further g (data_pages g (size_of head)) → ⊥).
-      rest (λ k. other (sym k ∙ span)) z high
-      (sym (bytes3_other g (own (live_at g a) id) (own (live_at g all.middle) id) (own (live_at g b) id) id o p h old page head head' f0 f start.pages (page_number g p start.inside) gains loses
-      (further g (data_pages g (size_of head))) other) ∙ e))
-      (cases_eq (span_of old) (further g (data_pages g (size_of head))))
+      (λ (new : r ≡ p).
+      let same : page ≡ x =
+      same_Some page x (sym (three_v g (own (live_at g a) id) (own (live_at g all.middle) id) (own (live_at g b) id) id o p h old page head head' f0 f start.pages (page_number g p start.inside) gains loses) ∙ ap (own (live_at g b) id) (sym new) ∙ is) in
+      let here : index_span g t ≡ span_of old = rw (le-ltb t (head_slots g) high) (sym span ∙ ap span_of (sym same) ∙ start.pages.new_span) in
+      ap (λ (l : List ℕ). slice_index l k) (sym same) ∙ next t k high past here low below)
+      (λ (there : r ≡ p → ⊥). ⊎_elim
+      (λ (gone : r ≡ o). absurd (none-some x (sym loses.after ∙ ap (own (live_at g b) id) (sym gone) ∙ is)))
+      (λ (left : r ≡ o → ⊥). rest r t k x left
+      (sym (three_other g (own (live_at g a) id) (own (live_at g all.middle) id) (own (live_at g b) id) id o p h old page head head' f0 f start.pages (page_number g p start.inside) gains loses r left there) ∙ is)
+      index span high past low below)
+      (cases_eq r o))
+      (cases_eq r p)
 
   clean : HasCleanTail g (own (live_at g b) id) head'
   clean = record {
     bytes = subst
         (λ (n : ℕ). (z : List ℕ) → n % body g ≢ 0 → data_page g (own (live_at g b) id) head' (n / body g) ≡ Some z → (k : ℕ) → 5 + n % body g ≤ k → k < g.page → slice_index z k ≡ 0xFF)
         (sym start.pages.size) bytes_now;
-    entry = subst
-        (λ (n : ℕ). (z : List ℕ) → head_slots g ≤ data_pages g n → option_and_then (own (live_at g b) id) (index_page g (own (live_at g b) id) (further g (data_pages g n))) ≡ Some z → slot_word g z (data_pages g n) ≡ 0xFFFF)
-        (sym start.pages.size) entry_now;
+    entries = subst (λ (n : ℕ). HasFreeEntries g (own (live_at g b) id) (data_pages g n)) (sym start.pages.size) entries_now;
   }
 
   readied : IsTailReady g b id
@@ -185,7 +186,45 @@ tail-copied g a b p o id h old page head head' f0 f start all same next j ready 
     let place : 5 + (k - 5) ≡ k = omega (arith, low) in
     ap (λ (i : ℕ). slice_index z i) (sym place) ∙ sym (body_at z g.page (k - 5) (omega (arith, low, high))) ∙ ap (λ (xs : List ℕ). slice_index xs (k - 5)) bodies ∙ body_at x.0 g.page (k - 5) (omega (arith, low, high))
     ∙ ap (λ (i : ℕ). slice_index x.0 i) place ∙ was.bytes x.0 some x.1 k low high)
-    next (λ other. was.entry)))
+    next (λ r t k x left. was.entries r t k x)))
     (λ (there : id ≡ j → ⊥).
     tail-stays g a b j (others5 g a p o id h old page head head' f0 f start all.middle all.put.gains b all.kill.loses j (λ e. there (sym e))) ready)
     (cases_eq id j)
+
+-- ---- a header page renewed
+
+-- a header page is no further index page, and no data page
+module _ (g : Geometry) (p : ℕ) (one two : Live) (others : (q : ℕ) → q ≢ p → two q ≡ one q) (was : IsHeadAtMost (one p)) (is : IsHeadAtMost (two p)) where
+  data_stays : (head : List ℕ) (t : ℕ) → data_page g two head t ≡ data_page g one head t
+  unfolding data_page
+  data_stays head t =
+      rw (entry-same g p one two others was is head t)
+      (ap (λ (f : ℕ → Option (List ℕ)). option_and_then f (entry_number g one head t)) (fun_ext (data-same g p one two others was is t)))
+
+  not_further : (o : Option (List ℕ)) (x : List ℕ) (t : ℕ) → IsHeadAtMost o → o ≡ Some x → span_of x ≡ further g t → ⊥
+  not_further None x t head e span = none-some x e
+  not_further (Some y) x t head e span =
+      let same : y ≡ x = same_Some y x e in
+      let zero : span_of x ≡ 0 = ap span_of (sym same) ∙ head.1 in omega (arith, span, zero)
+
+  clean_stays : (head : List ℕ) → HasCleanTail g one head → HasCleanTail g two head
+  clean_stays head clean = record {
+    bytes = λ z some e. clean.bytes z some (sym (data_stays head (size_of head / body g)) ∙ e);
+    entries = λ r t k x there index span high past low below. ⊎_elim
+        (λ (here : r ≡ p). absurd (not_further (two p) x t is (ap two (sym here) ∙ there) span))
+        (λ (other : r ≡ p → ⊥). clean.entries r t k x (sym (others r other) ∙ there) index span high past low below)
+        (cases_eq r p);
+  }
+
+pub tail-grown : (g : Geometry) → TailGrown g
+tail-grown g a b p o id old head f start all clean =
+    let gains : Gains p head (own (live_at g a) id) (own (live_at g all.middle) id) = gains_own p id head (live_at g a) (live_at g all.middle) start.leads.is_head.of all.put.gains in
+    let was = own-parts (live_at g a) id o old start.was in
+    let apart : o ≢ p = λ e. none-some old (sym all.put.gains.before ∙ ap (live_at g a) (sym e) ∙ was.0) in
+    let live : live_at g all.middle o ≡ Some old = all.put.gains.others o apart ∙ was.0 in
+    let loses : Loses o (own (live_at g all.middle) id) (own (live_at g b) id) = own-loses o old (live_at g all.middle) (live_at g b) live all.kill.loses id in
+    let old_there : own (live_at g all.middle) id o ≡ Some old = gains.others o apart ∙ start.was in
+    let first = clean_stays g p (own (live_at g a) id) (own (live_at g all.middle) id) gains.others (subst IsHeadAtMost (sym gains.before) tt) (subst IsHeadAtMost (sym gains.after) (start.leads.is_head.index, start.leads.is_head.first)) head clean in
+    let second = clean_stays g o (own (live_at g all.middle) id) (own (live_at g b) id) loses.others (subst IsHeadAtMost (sym old_there) (start.old_head.index, start.old_head.first)) (subst IsHeadAtMost (sym loses.after) tt) head first in
+    let found = renewed_head g a b p o id old head f start all in
+    ready_from g b id p head found.0 found.1 second

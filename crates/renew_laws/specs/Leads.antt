@@ -17,7 +17,8 @@ use Rattle.renew_laws.specs.Replace.{Replaced}
 -- Copies with the same bodies: the file is as it was.
 abbrev pub CopiesSame : Geometry → Type 0
 CopiesSame g = (pages : Live) (id : ℕ) (head new : List ℕ) (f0 : File) → judged g pages id head ≡ Ok f0 →
-    ((t : ℕ) → t < data_pages g (size_of head) → slice_range (unwrap_or (now_data g pages head new t) []) 5 g.page ≡ span_bytes g pages head t) → now_bytes g pages head new ≡ f0.bytes
+    ((t : ℕ) → t < data_pages g (size_of head) → slice_range (unwrap_or (now_data g pages head new t) []) 5 g.page ≡ span_bytes g pages head t) →
+    now_bytes g pages head new ≡ f0.bytes
 
 -- a header page with the same size and entries
 pub record SameSpans (g : Geometry) (head head' : List ℕ) : Type 0 where
@@ -26,11 +27,13 @@ pub record SameSpans (g : Geometry) (head head' : List ℕ) : Type 0 where
 
 -- It leads to the same bytes, under the name, type and meta that it has.
 abbrev pub RenamedLeads : Geometry → Type 0
-RenamedLeads g = (pages : Live) (id : ℕ) (head head' name : List ℕ) (f0 : File) → judged g pages id head ≡ Ok f0 → SameSpans g head head' → name_of head' ≡ Some name →
+RenamedLeads g = (pages : Live) (id : ℕ) (head head' name : List ℕ) (f0 : File) → judged g pages id head ≡ Ok f0 → SameSpans g head head' →
+    name_of head' ≡ Some name →
     (judged g pages id head' ≡ Ok (record { id = id; name = name; kind = slice_index head' 12; meta = slice_range head' 45 (45 + g.meta); bytes = f0.bytes }))
     × ((r : ℕ) → serves g pages head' r ≡ serves g pages head r)
 
 -- Renewed so, the image is tidy.
 abbrev pub RenameTidies : Geometry → Type 0
-RenameTidies g = (a b : List ℕ) (p o id : ℕ) (old head : List ℕ) (f0 f : File) → RenewsTo g a p o id old head f → index_page g (own (live_at g a) id) 0 ≡ Some o → judged g (own (live_at g a) id) id old ≡ Ok f0 →
+RenameTidies g = (a b : List ℕ) (p o id : ℕ) (old head : List ℕ) (f0 f : File) → RenewsTo g a p o id old head f →
+    index_page g (own (live_at g a) id) 0 ≡ Some o → judged g (own (live_at g a) id) id old ≡ Ok f0 →
     SameSpans g old head → Replaced g p o head a b → IsTidy g a → IsTidy g b × (table_of g b ≡ put_file f (table_of g a))

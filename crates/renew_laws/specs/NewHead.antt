@@ -22,9 +22,11 @@ pub record IsNewHead (g : Geometry) (a : List ℕ) (p id : ℕ) (head : List ℕ
 
 -- Each cut is before or after, sound, undamaged, and leaves all free blocks but one.
 abbrev pub NewHeadCuts : Geometry → Type 0
-NewHeadCuts g = (a c : List ℕ) (p id : ℕ) (head : List ℕ) (f : File) → IsNewHead g a p id head f → HasMagics g a → PutLeaves g p head a c → CutOf g a f c × (damaged_of g c ≡ [])
+NewHeadCuts g = (a c : List ℕ) (p id : ℕ) (head : List ℕ) (f : File) → IsNewHead g a p id head f → HasMagics g a → PutLeaves g p head a c →
+    CutOf g a f c × (damaged_of g c ≡ [])
 
 -- Done, the file is put into the table, and the image is tidy but for what was spare.
 abbrev pub NewHeadTidies : Geometry → Type 0
-NewHeadTidies g = (a b : List ℕ) (p id : ℕ) (head : List ℕ) (f : File) (spare : ℕ → Bool) → IsNewHead g a p id head f → PutDone g p head a b → IsTidyBut g a spare →
+NewHeadTidies g = (a b : List ℕ) (p id : ℕ) (head : List ℕ) (f : File) (spare : ℕ → Bool) → IsNewHead g a p id head f →
+    PutDone g p head a b → IsTidyBut g a spare →
     IsTidyBut g b spare × (table_of g b ≡ put_file f (table_of g a))

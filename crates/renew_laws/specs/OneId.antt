@@ -30,5 +30,6 @@ pub record OneIdChanges (g : Geometry) (id k : ℕ) (head : List ℕ) (f : File)
 
 -- Then, where what was spare before is touched, the file is put into the table, and the image is tidy but for the spare pages.
 abbrev pub OneIdIsTidy : Geometry → Type 0
-OneIdIsTidy g = (a b : List ℕ) (id k : ℕ) (head : List ℕ) (f : File) (before touched spare : ℕ → Bool) → IsTidyBut g a before → ((r : ℕ) → before r ≡ true → touched r ≡ true) → OneIdChanges g id k head f touched spare a b →
+OneIdIsTidy g = (a b : List ℕ) (id k : ℕ) (head : List ℕ) (f : File) (before touched spare : ℕ → Bool) → IsTidyBut g a before →
+    ((r : ℕ) → before r ≡ true → touched r ≡ true) → OneIdChanges g id k head f touched spare a b →
     IsTidyBut g b spare × (table_of g b ≡ put_file f (table_of g a))

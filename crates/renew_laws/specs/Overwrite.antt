@@ -19,10 +19,12 @@ pub record IsPatched (g : Geometry) (old new : List ℕ) (from used : ℕ) (byte
 
 -- With a patched page in the place of that of span s, the bytes are those of the file written at that place.
 abbrev pub PatchedIsWritten : Geometry → Type 0
-PatchedIsWritten g = (pages : Live) (id s : ℕ) (head new z y bytes : List ℕ) (f : File) → judged g pages id head ≡ Ok f → ((q : ℕ) (x : List ℕ) → pages q ≡ Some x → length x ≡ g.page) →
+PatchedIsWritten g = (pages : Live) (id s : ℕ) (head new z y bytes : List ℕ) (f : File) → judged g pages id head ≡ Ok f →
+    ((q : ℕ) (x : List ℕ) → pages q ≡ Some x → length x ≡ g.page) →
     s < data_pages g (size_of head) → data_page g pages head s ≡ Some z → now_data g pages head new s ≡ Some y → length y ≡ g.page →
     ((t : ℕ) → t < data_pages g (size_of head) → t ≢ s → now_data g pages head new t ≡ data_page g pages head t) →
-    (from used : ℕ) → from + length bytes ≤ body g → s * body g + from + length bytes ≤ size_of head → ((k : ℕ) → k < body g → s * body g + k < size_of head → k < used) → IsPatched g z y from used bytes →
+    (from used : ℕ) → from + length bytes ≤ body g → s * body g + from + length bytes ≤ size_of head →
+    ((k : ℕ) → k < body g → s * body g + k < size_of head → k < used) → IsPatched g z y from used bytes →
     now_bytes g pages head new ≡ take (s * body g + from) f.bytes ++ bytes ++ drop (s * body g + from + length bytes) f.bytes
 
 -- Where no bytes are written the file is as it was.

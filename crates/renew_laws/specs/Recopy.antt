@@ -30,16 +30,20 @@ pub record RecopiesTo (g : Geometry) (a : List ℕ) (p o id h : ℕ) (old page h
 
 -- Each cut is before, or with the file as the copy has it; sound, undamaged, and leaves all free blocks but one.
 abbrev pub RecopyCuts : Geometry → Type 0
-RecopyCuts g = (a c : List ℕ) (p o id h : ℕ) (old page head head' : List ℕ) (f0 f : File) → RecopiesTo g a p o id h old page head head' f0 f → HasMagics g a → ReplaceCut g p o page a c → CutOf g a f c × (damaged_of g c ≡ [])
+RecopyCuts g = (a c : List ℕ) (p o id h : ℕ) (old page head head' : List ℕ) (f0 f : File) → RecopiesTo g a p o id h old page head head' f0 f → HasMagics g a →
+    ReplaceCut g p o page a c → CutOf g a f c × (damaged_of g c ≡ [])
 
 -- the spare pages that the new index page names, and the data pages that it names no longer
 pub record Renamed (g : Geometry) (pages : Live) (head old new : List ℕ) (copies olds : ℕ → Bool) : Type 0 where
-  pub named : (r : ℕ) → copies r ≡ true → (t : ℕ) × (t < data_pages g (size_of head)) × (index_span g t ≡ span_of old) × (slot_word g new t ≡ r) × (is_some (data_of (pages r) t) ≡ true)
-  pub left : (t : ℕ) → t < data_pages g (size_of head) → index_span g t ≡ span_of old → (slot_word g new t ≡ slot_word g old t) ⊎ (olds (slot_word g old t) ≡ true)
+  pub named : (r : ℕ) → copies r ≡ true → (t : ℕ) × (t < data_pages g (size_of head)) × (index_span g t ≡ span_of old) × (slot_word g new t ≡ r)
+      × (is_some (data_of (pages r) t) ≡ true)
+  pub left : (t : ℕ) → t < data_pages g (size_of head) → index_span g t ≡ span_of old →
+      (slot_word g new t ≡ slot_word g old t) ⊎ (olds (slot_word g old t) ≡ true)
 
 -- Done, the file is put into the table, and of the old data pages those are spare that serve no more.
 abbrev pub RecopySpares : Geometry → Type 0
-RecopySpares g = (a b : List ℕ) (p o id h : ℕ) (old page head head' : List ℕ) (f0 f : File) (copies olds : ℕ → Bool) → RecopiesTo g a p o id h old page head head' f0 f → Replaced g p o page a b →
+RecopySpares g = (a b : List ℕ) (p o id h : ℕ) (old page head head' : List ℕ) (f0 f : File) (copies olds : ℕ → Bool) →
+    RecopiesTo g a p o id h old page head head' f0 f → Replaced g p o page a b →
     IsTidyBut g a copies → Renamed g (own (live_at g a) id) head old page copies olds →
     Idles g (λ r. olds r && leftover g (own (live_at g b) id) head' r) b × (table_of g b ≡ put_file f (table_of g a))
 
@@ -54,7 +58,8 @@ pub record PutsDataTo (g : Geometry) (a : List ℕ) (p id h : ℕ) (page head : 
 
 -- Each cut keeps the image.
 abbrev pub PutDataCuts : Geometry → Type 0
-PutDataCuts g = (a c : List ℕ) (p id h : ℕ) (page head : List ℕ) (f0 : File) → PutsDataTo g a p id h page head f0 → HasMagics g a → PutLeaves g p page a c → Keeps g a c
+PutDataCuts g = (a c : List ℕ) (p id h : ℕ) (page head : List ℕ) (f0 : File) → PutsDataTo g a p id h page head f0 → HasMagics g a →
+    PutLeaves g p page a c → Keeps g a c
 
 -- Done, it keeps it too, and the page is one more spare page.
 abbrev pub PutDataDone : Geometry → Type 0
@@ -79,8 +84,10 @@ pub record Recopies (g : Geometry) (a : List ℕ) (p o id h : ℕ) (old page hea
 
 -- Cut off in any of its six programs: before, or with the file as the copy has it; sound, undamaged, all free blocks but one.
 abbrev pub RecopyIsSound : Geometry → Type 0
-RecopyIsSound g = (a0 a1 a2 a3 a4 a5 a6 c : List ℕ) (p o id h : ℕ) (old page head head' : List ℕ) (fin kill : ℕ) (f0 f : File) → Recopies g a0 p o id h old page head head' fin kill f0 f → HasMagics g a0 →
-    Finished g p page fin a0 a1 a2 a3 a4 → Kills g o kill a4 a5 a6 → PutCut g p page fin a0 a1 a2 a3 c ⊎ KillCut g o kill a4 a5 c → CutOf g a0 f c × (damaged_of g c ≡ [])
+RecopyIsSound g = (a0 a1 a2 a3 a4 a5 a6 c : List ℕ) (p o id h : ℕ) (old page head head' : List ℕ) (fin kill : ℕ) (f0 f : File) →
+    Recopies g a0 p o id h old page head head' fin kill f0 f → HasMagics g a0 →
+    Finished g p page fin a0 a1 a2 a3 a4 → Kills g o kill a4 a5 a6 → PutCut g p page fin a0 a1 a2 a3 c ⊎ KillCut g o kill a4 a5 c →
+    CutOf g a0 f c × (damaged_of g c ≡ [])
 
 -- A data page that no entry names is put, of an id whose file is whole.
 pub record PutsData (g : Geometry) (a : List ℕ) (p id h : ℕ) (page head : List ℕ) (fin : ℕ) (f0 : File) : Type 0 where
@@ -101,11 +108,14 @@ PutDataKeeps g = (a0 a1 a2 a3 a4 : List ℕ) (p id h : ℕ) (page head : List �
 
 -- Done, it is one more spare page.
 abbrev pub PutDataSpares : Geometry → Type 0
-PutDataSpares g = (a0 a1 a2 a3 a4 : List ℕ) (p id h : ℕ) (page head : List ℕ) (fin : ℕ) (f0 : File) (before : ℕ → Bool) → PutsData g a0 p id h page head fin f0 → IsTidyBut g a0 before →
+PutDataSpares g = (a0 a1 a2 a3 a4 : List ℕ) (p id h : ℕ) (page head : List ℕ) (fin : ℕ) (f0 : File) (before : ℕ → Bool) →
+    PutsData g a0 p id h page head fin f0 → IsTidyBut g a0 before →
     Finished g p page fin a0 a1 a2 a3 a4 → IsTidyBut g a4 (λ r. before r || (r == p))
 
 -- Done, the file is put into the table, and of the old data pages those are spare that serve no more.
 abbrev pub RecopyTidies : Geometry → Type 0
-RecopyTidies g = (a0 a1 a2 a3 a4 a5 a6 : List ℕ) (p o id h : ℕ) (old page head head' : List ℕ) (fin kill : ℕ) (f0 f : File) (copies olds : ℕ → Bool) → Recopies g a0 p o id h old page head head' fin kill f0 f →
-    Finished g p page fin a0 a1 a2 a3 a4 → Kills g o kill a4 a5 a6 → IsTidyBut g a0 copies → Renamed g (own (live_at g a0) id) head old (slice_set page 4 fin) copies olds →
+RecopyTidies g = (a0 a1 a2 a3 a4 a5 a6 : List ℕ) (p o id h : ℕ) (old page head head' : List ℕ) (fin kill : ℕ) (f0 f : File) (copies olds : ℕ → Bool) →
+    Recopies g a0 p o id h old page head head' fin kill f0 f →
+    Finished g p page fin a0 a1 a2 a3 a4 → Kills g o kill a4 a5 a6 → IsTidyBut g a0 copies →
+    Renamed g (own (live_at g a0) id) head old (slice_set page 4 fin) copies olds →
     Spares g (λ r. olds r && leftover g (own (live_at g a6) id) head' r) a6 × (table_of g a6 ≡ put_file f (table_of g a0))

@@ -35,8 +35,10 @@ pub record IsRelinked (g : Geometry) (id s to : ℕ) (x y head head' : List ℕ)
   pub kind : slice_index head' 12 ≡ slice_index head 12
   pub meta : slice_range head' 45 (45 + g.meta) ≡ slice_range head 45 (45 + g.meta)
 
--- What it begins on: page q, the data page of span s, is named by index page w; a copy of it with bytes in their place from `from` on was put beside at `to`, and y is to be put at p.
-pub record Relinks (g : Geometry) (a b : List ℕ) (id h s w q to p from used : ℕ) (head head' x y old copy bytes : List ℕ) (f : File) (beside : ℕ → Bool) : Type 0 where
+-- What it begins on: page q, the data page of span s, is named by index page w; a copy of it with bytes in their place from `from` on was put beside at `to`,
+-- and y is to be put at p.
+pub record Relinks (g : Geometry) (a b : List ℕ) (id h s w q to p from used : ℕ) (head head' x y old copy bytes : List ℕ) (f : File)
+    (beside : ℕ → Bool) : Type 0 where
   pub primed : Primed g id h head f beside a b
   pub alone : (r : ℕ) → beside r ≡ true → r ≡ to
   pub below : s < data_pages g (size_of head)
@@ -58,17 +60,20 @@ pub record Relinks (g : Geometry) (a b : List ℕ) (id h s w q to p from used : 
 
 -- Then the index page is renewed, with the file that has the bytes written there.
 abbrev pub RelinkRecopies : Geometry → Type 0
-RelinkRecopies g = (a b : List ℕ) (id h s w q to p from used : ℕ) (head head' x y old copy bytes : List ℕ) (f : File) (beside : ℕ → Bool) → Relinks g a b id h s w q to p from used head head' x y old copy bytes f beside →
+RelinkRecopies g = (a b : List ℕ) (id h s w q to p from used : ℕ) (head head' x y old copy bytes : List ℕ) (f : File) (beside : ℕ → Bool) →
+    Relinks g a b id h s w q to p from used head head' x y old copy bytes f beside →
     RecopiesTo g b p w id h x y head head' f (written (s * body g + from) bytes f)
 
 -- The copy stands in the place of the page of span s, and the other spans have theirs.
 abbrev pub RelinkReads : Geometry → Type 0
-RelinkReads g = (a b : List ℕ) (id h s w q to p from used : ℕ) (head head' x y old copy bytes : List ℕ) (f : File) (beside : ℕ → Bool) → Relinks g a b id h s w q to p from used head head' x y old copy bytes f beside →
+RelinkReads g = (a b : List ℕ) (id h s w q to p from used : ℕ) (head head' x y old copy bytes : List ℕ) (f : File) (beside : ℕ → Bool) →
+    Relinks g a b id h s w q to p from used head head' x y old copy bytes f beside →
     (now_data g (own (live_at g b) id) head y s ≡ Some copy) × (span_of x ≡ index_span g s)
     × ((t : ℕ) → t < data_pages g (size_of head) → t ≢ s → now_data g (own (live_at g b) id) head y t ≡ data_page g (own (live_at g b) id) head t)
 
 -- Done, the file is in the table; the old data page alone is not needed, and once it is killed the image is tidy.
 abbrev pub RelinkEnds : Geometry → Type 0
-RelinkEnds g = (a b c : List ℕ) (id h s w q to p from used : ℕ) (head head' x y old copy bytes : List ℕ) (f : File) (beside : ℕ → Bool) → Relinks g a b id h s w q to p from used head head' x y old copy bytes f beside → Replaced g p w y b c →
+RelinkEnds g = (a b c : List ℕ) (id h s w q to p from used : ℕ) (head head' x y old copy bytes : List ℕ) (f : File) (beside : ℕ → Bool) →
+    Relinks g a b id h s w q to p from used head head' x y old copy bytes f beside → Replaced g p w y b c →
     Idles g (λ r. r == q) c × (live_at g c q ≡ Some old) × (table_of g c ≡ put_file (written (s * body g + from) bytes f) (table_of g a))
     × ((d : List ℕ) → KillDone g q c d → IsTidy g d × (table_of g d ≡ put_file (written (s * body g + from) bytes f) (table_of g a)))

@@ -27,16 +27,21 @@ pub record RenewsTo (g : Geometry) (a : List ℕ) (p o id : ℕ) (old head : Lis
 
 -- Each cut is before or after, sound, undamaged, and leaves all free blocks but one.
 abbrev pub RenewCuts : Geometry → Type 0
-RenewCuts g = (a c : List ℕ) (p o id : ℕ) (old head : List ℕ) (f : File) → RenewsTo g a p o id old head f → HasMagics g a → ReplaceCut g p o head a c → CutOf g a f c × (damaged_of g c ≡ [])
+RenewCuts g = (a c : List ℕ) (p o id : ℕ) (old head : List ℕ) (f : File) → RenewsTo g a p o id old head f → HasMagics g a → ReplaceCut g p o head a c →
+    CutOf g a f c × (damaged_of g c ≡ [])
 
 -- Where the new header page is served by all pages of the id that the old one was, and by those that are spare, none is left over.
 abbrev pub NoneLeft : Geometry → Type 0
-NoneLeft g = (a : List ℕ) (o id : ℕ) (old head : List ℕ) (before : ℕ → Bool) → IsTidyBut g a before → index_page g (own (live_at g a) id) 0 ≡ Some o → own (live_at g a) id o ≡ Some old →
-    ((r : ℕ) → before r ≡ true → serves g (own (live_at g a) id) head r ≡ true) → ((r : ℕ) → serves g (own (live_at g a) id) old r ≡ true → serves g (own (live_at g a) id) head r ≡ true) →
+NoneLeft g = (a : List ℕ) (o id : ℕ) (old head : List ℕ) (before : ℕ → Bool) → IsTidyBut g a before → index_page g (own (live_at g a) id) 0 ≡ Some o →
+    own (live_at g a) id o ≡ Some old →
+    ((r : ℕ) → before r ≡ true → serves g (own (live_at g a) id) head r ≡ true) →
+    ((r : ℕ) → serves g (own (live_at g a) id) old r ≡ true → serves g (own (live_at g a) id) head r ≡ true) →
     (r : ℕ) → leftover g (own (live_at g a) id) head r ≡ true → ⊥
 
--- Done, the file is put into the table. Some pages of the id may be spare before, as data pages put beside; what the new header page does not need is spare after it.
+-- Done, the file is put into the table. Some pages of the id may be spare before, as data pages put beside;
+-- what the new header page does not need is spare after it.
 abbrev pub RenewSpares : Geometry → Type 0
-RenewSpares g = (a b : List ℕ) (p o id : ℕ) (old head : List ℕ) (f : File) (before : ℕ → Bool) → RenewsTo g a p o id old head f → Replaced g p o head a b → IsTidyBut g a before →
+RenewSpares g = (a b : List ℕ) (p o id : ℕ) (old head : List ℕ) (f : File) (before : ℕ → Bool) → RenewsTo g a p o id old head f →
+    Replaced g p o head a b → IsTidyBut g a before →
     ((r : ℕ) → before r ≡ true → is_some (own (live_at g a) id r) ≡ true) →
     Idles g (λ r. not (r == o) && leftover g (own (live_at g a) id) head r) b × (table_of g b ≡ put_file f (table_of g a))

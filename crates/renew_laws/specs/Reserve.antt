@@ -21,4 +21,5 @@ KillReserve g = (a c : List ℕ) (o : ℕ) (x : List ℕ) → live_at g a o ≡ 
 
 -- and where the one takes the place of the other the reserve is kept too.
 abbrev pub ReplaceReserve : Geometry → Type 0
-ReplaceReserve g = (a c : List ℕ) (p o : ℕ) (page old : List ℕ) → CanTake g a p → live_at g a o ≡ Some old → HasReserve g a → ReplaceCut g p o page a c ⊎ Replaced g p o page a c → HasReserve g c
+ReplaceReserve g = (a c : List ℕ) (p o : ℕ) (page old : List ℕ) → CanTake g a p → live_at g a o ≡ Some old → HasReserve g a →
+    ReplaceCut g p o page a c ⊎ Replaced g p o page a c → HasReserve g c

@@ -1,5 +1,6 @@
 ghost use Rattle.geometry.specs.declared.geometry.Geometry.{Geometry};
-ghost use Rattle.renew_laws.specs.Append.{AppendingTidies, AppendingIsSound, SpanIsKept, SpanIsNamed, AppendedLeads, AppendedIsWritten, AppendedServes, RenewedTidies};
+ghost use Rattle.renew_laws.specs.Append.{AppendingTidies, AppendingIsSound, SpanIsKept, SpanIsNamed, AppendedLeads, AppendedIsWritten, AppendedServes};
+ghost use Rattle.renew_laws.specs.Append.{RenewedTidies};
 
 /// Bytes appended inside the last data page leave the image tidy, and so does a header page that all pages of its file serve.
 pub fn appending_tidies()

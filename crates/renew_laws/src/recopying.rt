@@ -1,7 +1,8 @@
 ghost use Rattle.geometry.specs.declared.geometry.Geometry.{Geometry};
 ghost use Rattle.renew_laws.specs.Leads.{CopiesSame};
 ghost use Rattle.image_laws.specs.InPlace.{EntryInPlaceKeeps, EntryInPlaceTidies};
-ghost use Rattle.renew_laws.specs.Recopy.{RecopyCuts, RecopySpares, PutDataCuts, PutDataDone, PutSame, RecopyIsSound, PutDataKeeps, PutDataSpares, RecopyTidies};
+ghost use Rattle.renew_laws.specs.Recopy.{RecopyCuts, RecopySpares, PutDataCuts, PutDataDone, PutSame, RecopyIsSound, PutDataKeeps, PutDataSpares};
+ghost use Rattle.renew_laws.specs.Recopy.{RecopyTidies};
 
 /// A renewed index page: each cut is before or after, and sound; done it is tidy but for the data pages that it names no longer.
 pub fn recopying_puts()

@@ -33,14 +33,17 @@ CarryingStarts g = (first was : List ℕ) (block : ℕ) → IsBetween g first bl
 pub record CarryingTells (g : Geometry) (block : ℕ) (was : List ℕ) (moves : List Move) (image : List ℕ) : Type 0 where
   pub blocks : All (IsBlock (entries g)) (others_by g (sort_at g image) block)
   pub few : length moves ≤ (counts_by g (sort_at g was) block).pages
-  pub had : HadWith (entries g) (others_by g (sort_at g image) block) 0 ((counts_by g (sort_at g was) block).index + (counts_by g (sort_at g was) block).pages) ((counts_by g (sort_at g was) block).pages - length moves)
+  pub had : HadWith (entries g) (others_by g (sort_at g image) block) 0 ((counts_by g (sort_at g was) block).index + (counts_by g (sort_at g was) block).pages)
+      ((counts_by g (sort_at g was) block).pages - length moves)
 
 abbrev pub CarryingIsCounted : Geometry → Type 0
-CarryingIsCounted g = (first was image : List ℕ) (block : ℕ) (moves : List Move) → block < g.blocks → IsCarrying g first block was moves image → CarryingTells g block was moves image
+CarryingIsCounted g = (first was image : List ℕ) (block : ℕ) (moves : List Move) → block < g.blocks → IsCarrying g first block was moves image →
+    CarryingTells g block was moves image
 
 -- A place of the image is one by what its pages count as.
 abbrev pub CarryingPlaces : Geometry → Type 0
-CarryingPlaces g = (first was image : List ℕ) (block : ℕ) (moves : List Move) (k : Kind) (to : ℕ) → block < g.blocks → IsCarrying g first block was moves image → IsPlaceBy g (sort_at g image) block k to →
+CarryingPlaces g = (first was image : List ℕ) (block : ℕ) (moves : List Move) (k : Kind) (to : ℕ) → block < g.blocks →
+    IsCarrying g first block was moves image → IsPlaceBy g (sort_at g image) block k to →
     IsPlaceBy g (with_data moves (sort_at g was)) block k to
 
 -- One more data page of the block, which is not on its way, has a place for its copy.
@@ -55,7 +58,8 @@ pub record IsNextOut (g : Geometry) (block : ℕ) (was : List ℕ) (moves : List
 
 -- Its copy is put.
 abbrev pub CarryingPuts : Geometry → Type 0
-CarryingPuts g = (first was image next : List ℕ) (block : ℕ) (moves : List Move) (move : Move) (copy : List ℕ) → block < g.blocks → IsCarrying g first block was moves image →
+CarryingPuts g = (first was image next : List ℕ) (block : ℕ) (moves : List Move) (move : Move) (copy : List ℕ) → block < g.blocks →
+    IsCarrying g first block was moves image →
     IsNextOut g block was moves image move copy → PutDone g move.to copy image next → IsCarrying g first block was (move ∷ moves) next
 
 -- What a cut while it is put leaves.
@@ -65,13 +69,16 @@ pub record CarryingLeaves (g : Geometry) (block : ℕ) (was : List ℕ) (moves :
   pub way : OnWay g moves was cut
 
 abbrev pub CarryingIsCut : Geometry → Type 0
-CarryingIsCut g = (first was image cut : List ℕ) (block : ℕ) (moves : List Move) (move : Move) (copy : List ℕ) → block < g.blocks → IsCarrying g first block was moves image →
+CarryingIsCut g = (first was image cut : List ℕ) (block : ℕ) (moves : List Move) (move : Move) (copy : List ℕ) → block < g.blocks →
+    IsCarrying g first block was moves image →
     IsNextOut g block was moves image move copy → PutLeaves g move.to copy image cut → CarryingLeaves g block was (move ∷ moves) cut
 
 -- The index page of the batch is put, done or cut off.
 abbrev pub RenewingLeaves : Geometry → Type 0
-RenewingLeaves g = (first was image cut : List ℕ) (block : ℕ) (moves : List Move) (index : Move) (page copy : List ℕ) → block < g.blocks → IsCarrying g first block was moves image →
-    live_at g was index.from ≡ Some page → names_index page ≡ true → IsPlaceBy g (sort_at g image) block for_index index.to → SameTag page copy → PutLeaves g index.to copy image cut →
+RenewingLeaves g = (first was image cut : List ℕ) (block : ℕ) (moves : List Move) (index : Move) (page copy : List ℕ) → block < g.blocks →
+    IsCarrying g first block was moves image →
+    live_at g was index.from ≡ Some page → names_index page ≡ true → IsPlaceBy g (sort_at g image) block for_index index.to → SameTag page copy →
+    PutLeaves g index.to copy image cut →
     AreMoves g was (index ∷ moves) × OnWay g (index ∷ moves) was cut
 
 -- The copy of the index page names the place of a move.
@@ -80,10 +87,13 @@ IsNamedThere g was copy move = (page : List ℕ) → live_at g was move.from ≡
 
 -- Where it names them all, what the put leaves is a batch.
 abbrev pub RenewedIsBatch : Geometry → Type 0
-RenewedIsBatch g = (first was image cut : List ℕ) (block : ℕ) (moves : List Move) (index : Move) (page copy : List ℕ) → block < g.blocks → IsCarrying g first block was moves image →
-    live_at g was index.from ≡ Some page → names_index page ≡ true → IsPlaceBy g (sort_at g image) block for_index index.to → PutLeaves g index.to copy image cut → All (IsNamedBy g was page) moves →
+RenewedIsBatch g = (first was image cut : List ℕ) (block : ℕ) (moves : List Move) (index : Move) (page copy : List ℕ) → block < g.blocks →
+    IsCarrying g first block was moves image →
+    live_at g was index.from ≡ Some page → names_index page ≡ true → IsPlaceBy g (sort_at g image) block for_index index.to →
+    PutLeaves g index.to copy image cut → All (IsNamedBy g was page) moves →
     All (IsNamedThere g was copy) moves → IsBatch g was cut index moves
 
 -- It stays one while pages are killed.
 abbrev pub KilledIsBatch : Geometry → Type 0
-KilledIsBatch g = (was image cut : List ℕ) (moves : List Move) (index : Move) (p : ℕ) → IsBatch g was image index moves → KillLeaves g p image cut → IsBatch g was cut index moves
+KilledIsBatch g = (was image cut : List ℕ) (moves : List Move) (index : Move) (p : ℕ) → IsBatch g was image index moves → KillLeaves g p image cut →
+    IsBatch g was cut index moves

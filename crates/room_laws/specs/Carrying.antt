@@ -20,7 +20,8 @@ PutSorts g = (a b : List ℕ) (p : ℕ) (page : List ℕ) → TellsFree g a → 
 
 -- So does a page that is killed.
 abbrev pub KillSorts : Geometry → Type 0
-KillSorts g = (a b : List ℕ) (p : ℕ) → TellsFree g a → KillDone g p a b → TellsFree g b × ((q : ℕ) → is_entry_page g q ≡ true → sort_at g b q ≡ with_sort p Deleted (sort_at g a) q)
+KillSorts g = (a b : List ℕ) (p : ℕ) → TellsFree g a → KillDone g p a b →
+    TellsFree g b × ((q : ℕ) → is_entry_page g q ≡ true → sort_at g b q ≡ with_sort p Deleted (sort_at g a) q)
 
 -- A cleaning begins with nothing gone.
 abbrev pub BeginsBetween : Geometry → Type 0
@@ -32,17 +33,23 @@ FitsHasPlaces g = (image : List ℕ) (block : ℕ) → IsTidy g image → block 
 
 -- Within a batch those that remain find places, and so does the index page.
 abbrev pub BatchHasPlaces : Geometry → Type 0
-BatchHasPlaces g = (first was : List ℕ) (block : ℕ) (moves : List Move) → block < g.blocks → IsBetween g first block was → HasPlaces g block (sort_at g was) → AreMoves g was moves →
+BatchHasPlaces g = (first was : List ℕ) (block : ℕ) (moves : List Move) → block < g.blocks → IsBetween g first block was →
+    HasPlaces g block (sort_at g was) → AreMoves g was moves →
     ArePagesWay g block (sort_at g was) moves →
-    HadWith (entries g) (others_by g (with_data moves (sort_at g was)) block) 0 ((counts_by g (sort_at g was) block).index + (counts_by g (sort_at g was) block).pages) ((counts_by g (sort_at g was) block).pages - length moves)
+    HadWith (entries g) (others_by g (with_data moves (sort_at g was)) block) 0
+    ((counts_by g (sort_at g was) block).index + (counts_by g (sort_at g was) block).pages) ((counts_by g (sort_at g was) block).pages - length moves)
 
 -- An index page has gone out of the block, and the pages that remain find places.
 abbrev pub IndexGoesOn : Geometry → Type 0
-IndexGoesOn g = (first was now : List ℕ) (block : ℕ) (move : Move) → block < g.blocks → IsBetween g first block was → HasPlaces g block (sort_at g was) → IsIndexWay g block (sort_at g was) move →
+IndexGoesOn g = (first was now : List ℕ) (block : ℕ) (move : Move) → block < g.blocks → IsBetween g first block was → HasPlaces g block (sort_at g was) →
+    IsIndexWay g block (sort_at g was) move →
     IsOnWay g (move ∷ []) was now → IsTidy g now → live_at g now move.from ≡ None → IsBetween g first block now × HasPlaces g block (sort_at g now)
 
 -- So has a batch.
 abbrev pub BatchGoesOn : Geometry → Type 0
-BatchGoesOn g = (first was now : List ℕ) (block : ℕ) (index : Move) (moves : List Move) → block < g.blocks → IsBetween g first block was → HasPlaces g block (sort_at g was) →
-    ArePagesWay g block (sort_at g was) moves → 0 < length moves → block_of g index.from ≢ block → IsPlaceBy g (with_data moves (sort_at g was)) block for_index index.to →
-    IsBatch g was now index moves → IsOnWay g (index ∷ moves) was now → IsTidy g now → live_at g now index.from ≡ None → IsBetween g first block now × HasPlaces g block (sort_at g now)
+BatchGoesOn g = (first was now : List ℕ) (block : ℕ) (index : Move) (moves : List Move) → block < g.blocks → IsBetween g first block was →
+    HasPlaces g block (sort_at g was) →
+    ArePagesWay g block (sort_at g was) moves → 0 < length moves → block_of g index.from ≢ block →
+    IsPlaceBy g (with_data moves (sort_at g was)) block for_index index.to →
+    IsBatch g was now index moves → IsOnWay g (index ∷ moves) was now → IsTidy g now → live_at g now index.from ≡ None →
+    IsBetween g first block now × HasPlaces g block (sort_at g now)

@@ -30,8 +30,10 @@ pub record HasCleaned (g : Geometry) (was : List ℕ) (block : ℕ) (now : List 
 
 -- A block that was emptied and made fresh was cleaned.
 abbrev pub EmptiedHasCleaned : Geometry → Type 0
-EmptiedHasCleaned g = (first was now : List ℕ) (block : ℕ) → block < g.blocks → IsImage g first → IsTidy g first → IsBetween g first block was → IsEmptied g (sort_at g was) block →
-    IsImage g now → IsTidy g now → table_of g now ≡ table_of g was → SameOutside (block * g.block) g.block was now → is_free_block g now block ≡ true → HasCleaned g first block now
+EmptiedHasCleaned g = (first was now : List ℕ) (block : ℕ) → block < g.blocks → IsImage g first → IsTidy g first → IsBetween g first block was →
+    IsEmptied g (sort_at g was) block →
+    IsImage g now → IsTidy g now → table_of g now ≡ table_of g was → SameOutside (block * g.block) g.block was now → is_free_block g now block ≡ true →
+    HasCleaned g first block now
 
 -- What was cleaned can be cleaned again.
 abbrev pub HasCleanedCanClean : Geometry → Type 0

@@ -11,7 +11,8 @@ use Rattle.room_laws.specs.Volume.{IsVolume, blocks_of, free_of, deleted_of, ind
 
 -- the counts of a block of an image
 unfoldable pub block_counts : Geometry → List ℕ → ℕ → Counts
-block_counts g image block = record { index = index_in g image block; pages = data_in g image block; deleted = deleted_in g image block; free = free_in g image block }
+block_counts g image block =
+    record { index = index_in g image block; pages = data_in g image block; deleted = deleted_in g image block; free = free_in g image block }
 
 -- the counts of all its blocks in order
 unfoldable pub counts_of : Geometry → List ℕ → List Counts
@@ -52,11 +53,13 @@ TidyCountsTell g = (image : List ℕ) → IsTidy g image → CountsTell g image
 
 -- By the counts of a tidy image exactly those blocks are worth cleaning that the test finds.
 abbrev pub WorthIsTested : Geometry → Type 0
-WorthIsTested g = (image : List ℕ) (block : ℕ) → IsTidy g image → block < g.blocks → (is_worth g image block ≡ true) ↔ Worth (counts_of g image) (block_counts g image block)
+WorthIsTested g = (image : List ℕ) (block : ℕ) → IsTidy g image → block < g.blocks →
+    (is_worth g image block ≡ true) ↔ Worth (counts_of g image) (block_counts g image block)
 
 -- By the counts of a tidy image exactly those blocks fit that the test finds.
 abbrev pub FitsIsTested : Geometry → Type 0
-FitsIsTested g = (image : List ℕ) (block : ℕ) → IsTidy g image → block < g.blocks → (is_fitting g image block ≡ true) ↔ Fits (entries g) (counts_of g image) (block_counts g image block)
+FitsIsTested g = (image : List ℕ) (block : ℕ) → IsTidy g image → block < g.blocks →
+    (is_fitting g image block ≡ true) ↔ Fits (entries g) (counts_of g image) (block_counts g image block)
 
 -- By the counts of a tidy image pages are had exactly where the test says so.
 abbrev pub HadIsTested : Geometry → Type 0

@@ -61,9 +61,11 @@ pub record WholeCleaning (e : ℕ) (c : Counts) (r s : List Counts) : Type 0 whe
 
 -- Once no live page is left and the block is made fresh, that was a cleaning.
 abbrev pub EmptyingCleans : Type 0
-EmptyingCleans = (e : ℕ) (c : Counts) (r : List Counts) (d : Counts) (s : List Counts) (carried : ℕ) → IsVolume e (c ∷ r) → Emptying e c r d s carried → SameTotals c r d s →
+EmptyingCleans = (e : ℕ) (c : Counts) (r : List Counts) (d : Counts) (s : List Counts) (carried : ℕ) → IsVolume e (c ∷ r) →
+    Emptying e c r d s carried → SameTotals c r d s →
     d.index ≡ 0 → d.pages ≡ 0 → WholeCleaning e c r s
 
 -- A cleaning is one in any order of the blocks.
 abbrev pub CleanedRearranged : Type 0
-CleanedRearranged = (e : ℕ) (a a' b b' : List Counts) (c : Counts) → IsVolume e a' → IsVolume e b' → Rearranged a a' → Rearranged b b' → Cleaned e a c b → Cleaned e a' c b'
+CleanedRearranged = (e : ℕ) (a a' b b' : List Counts) (c : Counts) → IsVolume e a' → IsVolume e b' → Rearranged a a' → Rearranged b b' →
+    Cleaned e a c b → Cleaned e a' c b'

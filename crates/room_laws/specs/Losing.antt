@@ -51,13 +51,15 @@ EmptyingIsCut = (e : ℕ) (c : Counts) (r : List Counts) (d : Counts) (s : List 
 
 -- So it is where the copy of an index page was lost: one of its own if it is a block for index pages.
 abbrev pub IndexLostIsCut : Type 0
-IndexLostIsCut = (e : ℕ) (c : Counts) (r : List Counts) (d : Counts) (s t : List Counts) (carried : ℕ) → IsVolume e (c ∷ r) → (kind_of c ≡ unused → ⊥) → (kind_of c ≡ for_index → 0 < d.index) →
+IndexLostIsCut = (e : ℕ) (c : Counts) (r : List Counts) (d : Counts) (s t : List Counts) (carried : ℕ) → IsVolume e (c ∷ r) → (kind_of c ≡ unused → ⊥) →
+    (kind_of c ≡ for_index → 0 < d.index) →
     Emptying e c r d s carried → SameTotals c r d s → LosesIndex s t → CutIndex e c r d t ⊎ CutData e c r d t
 
 -- So it is where copies of data pages were lost in data blocks, not more than a batch, perhaps with the copy of an index page.
 abbrev pub PagesLostAreCut : Type 0
 PagesLostAreCut = (e : ℕ) (c : Counts) (r : List Counts) (d : Counts) (s s' t : List Counts) (carried n : ℕ) → IsVolume e (c ∷ r) → kind_of c ≡ for_data →
-    Emptying e c r d s carried → SameTotals c r d s → (s' ≡ s) ⊎ LosesIndex s s' → Spoils e s' t n → n ≤ d.pages → n ≤ max 1 (c.deleted + c.free) → CutData e c r d t
+    Emptying e c r d s carried → SameTotals c r d s → (s' ≡ s) ⊎ LosesIndex s s' → Spoils e s' t n → n ≤ d.pages →
+    n ≤ max 1 (c.deleted + c.free) → CutData e c r d t
 
 -- A block without live pages is there, no page was lost and no data block more is there.
 pub record LeavesOneDead (s t : List Counts) : Type 0 where

@@ -46,7 +46,8 @@ pub record TakesOne (e : ℕ) (v w : List Counts) : Type 0 where
 
 -- A page that is put takes one, and so does an entry that is spoiled.
 abbrev pub PartPuts : Type 0
-PartPuts = (e : ℕ) (v : List Counts) (i : ℕ) (c : Counts) → CanPart e v i c → TakesOne e v (slice_set v i (placed for_index c)) × TakesOne e v (slice_set v i (spoiled c))
+PartPuts = (e : ℕ) (v : List Counts) (i : ℕ) (c : Counts) → CanPart e v i c →
+    TakesOne e v (slice_set v i (placed for_index c)) × TakesOne e v (slice_set v i (spoiled c))
 
 -- The old page is killed in a block that holds data pages: one less is shared.
 pub record PartsOne (e : ℕ) (v w : List Counts) : Type 0 where
@@ -55,7 +56,8 @@ pub record PartsOne (e : ℕ) (v w : List Counts) : Type 0 where
   pub free : blocks_of unused w ≡ blocks_of unused v
 
 abbrev pub PartKills : Type 0
-PartKills = (e : ℕ) (v : List Counts) (i : ℕ) (c : Counts) → i < length v → slice_index_or v i c ≡ c → kind_of c ≡ for_data → 0 < c.index → PartsOne e v (slice_set v i (killed c))
+PartKills = (e : ℕ) (v : List Counts) (i : ℕ) (c : Counts) → i < length v → slice_index_or v i c ≡ c → kind_of c ≡ for_data → 0 < c.index →
+    PartsOne e v (slice_set v i (killed c))
 
 -- By the counts of its blocks an image fits over with so many entries to spare.
 abbrev pub FitsBy : ℕ → List Counts → (spare : ℕ) → Type 0
@@ -89,11 +91,13 @@ pub record PartedOne (g : Geometry) (was now : List ℕ) : Type 0 where
 
 -- A copy is put to such a place, and the page is killed.
 abbrev pub MovePartsOne : Geometry → Type 0
-MovePartsOne g = (was middle now : List ℕ) (page to : ℕ) (old copy : List ℕ) → IsNeat g was → IsNeat g now → IsPartPlace g was to → live_at g was page ≡ Some old → names_index old ≡ true →
+MovePartsOne g = (was middle now : List ℕ) (page to : ℕ) (old copy : List ℕ) → IsNeat g was → IsNeat g now → IsPartPlace g was to →
+    live_at g was page ≡ Some old → names_index old ≡ true →
     is_data_block g was (block_of g page) ≡ true → names_index copy ≡ true → PutDone g to copy was middle → KillDone g page middle now → PartedOne g was now
 
 -- While an index page of such a block is left, and the image fits over, there is a place for it: a free entry of a block that takes index pages,
 -- or three free blocks.
 abbrev pub PartPlaceIsFound : Geometry → Type 0
-PartPlaceIsFound g = (image : List ℕ) (page : ℕ) (old : List ℕ) → IsNeat g image → FitsWith g image 0 → live_at g image page ≡ Some old → names_index old ≡ true → is_data_block g image (block_of g page) ≡ true →
+PartPlaceIsFound g = (image : List ℕ) (page : ℕ) (old : List ℕ) → IsNeat g image → FitsWith g image 0 → live_at g image page ≡ Some old →
+    names_index old ≡ true → is_data_block g image (block_of g page) ≡ true →
     ((block : ℕ) → block < g.blocks → takes_index g image block ≡ true → free_in g image block ≡ 0) → 2 < free_blocks g image

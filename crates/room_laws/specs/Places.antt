@@ -10,11 +10,13 @@ HadWith e v keep index pages = need e index (free_of for_index v) + need e pages
 
 -- Where no block for index pages has a free entry, an index page finds a free block beside those that are left alone.
 abbrev pub HadFindsIndex : Type 0
-HadFindsIndex = (e : ℕ) (v : List Counts) (keep index pages : ℕ) → 0 < e → HadWith e v keep index pages → 0 < index → free_of for_index v ≡ 0 → keep < blocks_of unused v
+HadFindsIndex = (e : ℕ) (v : List Counts) (keep index pages : ℕ) → 0 < e → HadWith e v keep index pages → 0 < index → free_of for_index v ≡ 0 →
+    keep < blocks_of unused v
 
 -- So does a data page where no data block has a free entry.
 abbrev pub HadFindsData : Type 0
-HadFindsData = (e : ℕ) (v : List Counts) (keep index pages : ℕ) → 0 < e → HadWith e v keep index pages → 0 < pages → free_of for_data v ≡ 0 → keep < blocks_of unused v
+HadFindsData = (e : ℕ) (v : List Counts) (keep index pages : ℕ) → 0 < e → HadWith e v keep index pages → 0 < pages → free_of for_data v ≡ 0 →
+    keep < blocks_of unused v
 
 -- Once an index page was put by the rule, places are left for all others.
 abbrev pub HadPutsIndex : Type 0
@@ -28,9 +30,11 @@ HadPutsData = (e : ℕ) (v : List Counts) (keep index pages i : ℕ) (c : Counts
 
 -- A killed index page takes no place.
 abbrev pub HadKills : Type 0
-HadKills = (e : ℕ) (v : List Counts) (keep index pages i : ℕ) (c : Counts) → IsVolume e v → i < length v → slice_index_or v i c ≡ c → kind_of c ≡ for_index → 0 < c.index →
+HadKills = (e : ℕ) (v : List Counts) (keep index pages i : ℕ) (c : Counts) → IsVolume e v → i < length v → slice_index_or v i c ≡ c →
+    kind_of c ≡ for_index → 0 < c.index →
     HadWith e v keep index pages → HadWith e (slice_set v i (killed c)) keep index pages
 
 -- Fewer pages find places too.
 abbrev pub HadLess : Type 0
-HadLess = (e : ℕ) (v : List Counts) (keep index pages index' pages' : ℕ) → 0 < e → index' ≤ index → pages' ≤ pages → HadWith e v keep index pages → HadWith e v keep index' pages'
+HadLess = (e : ℕ) (v : List Counts) (keep index pages index' pages' : ℕ) → 0 < e → index' ≤ index → pages' ≤ pages → HadWith e v keep index pages →
+    HadWith e v keep index' pages'

@@ -19,10 +19,14 @@ pub record CountsAreSorts (g : Geometry) (image : List ℕ) (block : ℕ) : Type
 
 -- The block of a page counts the page as what it now is in the place of what it was.
 pub record RecountedHere (g : Geometry) (was now : List ℕ) (p : ℕ) : Type 0 where
-  pub index : index_in g now (block_of g p) + cond (same_sort (sort_at g was p) Index) 1 0 ≡ index_in g was (block_of g p) + cond (same_sort (sort_at g now p) Index) 1 0
-  pub pages : data_in g now (block_of g p) + cond (same_sort (sort_at g was p) Data) 1 0 ≡ data_in g was (block_of g p) + cond (same_sort (sort_at g now p) Data) 1 0
-  pub deleted : deleted_in g now (block_of g p) + cond (same_sort (sort_at g was p) Deleted) 1 0 ≡ deleted_in g was (block_of g p) + cond (same_sort (sort_at g now p) Deleted) 1 0
-  pub free : ones_in g now (block_of g p) + cond (same_sort (sort_at g was p) Free) 1 0 ≡ ones_in g was (block_of g p) + cond (same_sort (sort_at g now p) Free) 1 0
+  pub index : index_in g now (block_of g p) + cond (same_sort (sort_at g was p) Index) 1 0
+      ≡ index_in g was (block_of g p) + cond (same_sort (sort_at g now p) Index) 1 0
+  pub pages : data_in g now (block_of g p) + cond (same_sort (sort_at g was p) Data) 1 0
+      ≡ data_in g was (block_of g p) + cond (same_sort (sort_at g now p) Data) 1 0
+  pub deleted : deleted_in g now (block_of g p) + cond (same_sort (sort_at g was p) Deleted) 1 0
+      ≡ deleted_in g was (block_of g p) + cond (same_sort (sort_at g now p) Deleted) 1 0
+  pub free : ones_in g now (block_of g p) + cond (same_sort (sort_at g was p) Free) 1 0
+      ≡ ones_in g was (block_of g p) + cond (same_sort (sort_at g now p) Free) 1 0
 
 -- A block has the counts that it had.
 pub record RecountedBeside (g : Geometry) (was now : List ℕ) (block : ℕ) : Type 0 where

@@ -51,7 +51,8 @@ EmptyingTo g first block sorts carried =
 
 -- The live pages of a block, and as many index pages as it has live data pages, find places in other blocks.
 abbrev pub HasPlaces : Geometry → (block : ℕ) (sorts : ℕ → Sort) → Type 0
-HasPlaces g block sorts = HadWith (entries g) (others_by g sorts block) 0 ((counts_by g sorts block).index + (counts_by g sorts block).pages) (counts_by g sorts block).pages
+HasPlaces g block sorts =
+    HadWith (entries g) (others_by g sorts block) 0 ((counts_by g sorts block).index + (counts_by g sorts block).pages) (counts_by g sorts block).pages
 
 -- A tidy image between two moves out of a block of a first one.
 pub record IsBetween (g : Geometry) (first : List ℕ) (block : ℕ) (image : List ℕ) : Type 0 where
@@ -78,7 +79,8 @@ pub record IsIndexWay (g : Geometry) (block : ℕ) (sorts : ℕ → Sort) (move 
 
 -- Where it is on its way the image recovers.
 abbrev pub IndexWayMends : Geometry → Type 0
-IndexWayMends g = (first was image : List ℕ) (block : ℕ) (move : Move) → MayCut g first block → IsBetween g first block was → IsIndexWay g block (sort_at g was) move →
+IndexWayMends g = (first was image : List ℕ) (block : ℕ) (move : Move) → MayCut g first block → IsBetween g first block was →
+    IsIndexWay g block (sort_at g was) move →
     IsOnWay g (move ∷ []) was image → Recovers g image
 
 -- what pages count as once copies of data pages are at the places of some moves
@@ -98,13 +100,17 @@ batch_most g first block = max 1 (deleted_in g first block + free_in g first blo
 
 -- Where a batch is on its way and its index page isn't put, the image recovers.
 abbrev pub PagesWayMend : Geometry → Type 0
-PagesWayMend g = (first was image : List ℕ) (block at : ℕ) (page : List ℕ) (moves : List Move) → MayCut g first block → IsBetween g first block was → ArePagesWay g block (sort_at g was) moves →
-    length moves ≤ batch_most g first block → live_at g was at ≡ Some page → names_index page ≡ true → All (IsNamedBy g was page) moves → IsOnWay g moves was image → Recovers g image
+PagesWayMend g = (first was image : List ℕ) (block at : ℕ) (page : List ℕ) (moves : List Move) → MayCut g first block → IsBetween g first block was →
+    ArePagesWay g block (sort_at g was) moves →
+    length moves ≤ batch_most g first block → live_at g was at ≡ Some page → names_index page ≡ true → All (IsNamedBy g was page) moves →
+    IsOnWay g moves was image → Recovers g image
 
 -- So it does where its index page is put too, and the old pages are killed.
 abbrev pub BatchWayMends : Geometry → Type 0
-BatchWayMends g = (first was image : List ℕ) (block : ℕ) (index : Move) (moves : List Move) → MayCut g first block → IsBetween g first block was → ArePagesWay g block (sort_at g was) moves →
-    0 < length moves → length moves ≤ batch_most g first block → block_of g index.from ≢ block → IsPlaceBy g (with_data moves (sort_at g was)) block for_index index.to →
+BatchWayMends g = (first was image : List ℕ) (block : ℕ) (index : Move) (moves : List Move) → MayCut g first block → IsBetween g first block was →
+    ArePagesWay g block (sort_at g was) moves →
+    0 < length moves → length moves ≤ batch_most g first block → block_of g index.from ≢ block →
+    IsPlaceBy g (with_data moves (sort_at g was)) block for_index index.to →
     IsBatch g was image index moves → IsOnWay g (index ∷ moves) was image → Recovers g image
 
 -- No live page is left in a block.
@@ -114,5 +120,6 @@ pub record IsEmptied (g : Geometry) (sorts : ℕ → Sort) (block : ℕ) : Type 
 
 -- Where the emptied block is being made fresh the image recovers.
 abbrev pub FreshWayMends : Geometry → Type 0
-FreshWayMends g = (first was image : List ℕ) (block : ℕ) → MayCut g first block → IsBetween g first block was → IsEmptied g (sort_at g was) block → IsImage g image → table_of g image ≡ table_of g was →
+FreshWayMends g = (first was image : List ℕ) (block : ℕ) → MayCut g first block → IsBetween g first block was → IsEmptied g (sort_at g was) block →
+    IsImage g image → table_of g image ≡ table_of g was →
     SameOutside (block * g.block) g.block was image → (has_magic g image block ≡ false) ⊎ (is_free_block g image block ≡ true) → Recovers g image

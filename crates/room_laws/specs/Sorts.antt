@@ -1,5 +1,6 @@
 -- Entries by what they count as, and the counts of blocks by them.
-use Rattle.std.specs.Prelude.{◌≡◌, ◌≢◌, ℕ, zero, suc, ◌+◌, ◌<◌, ◌⊎◌, List, length, Bool, true, false, ◌==◌, Option, Some, None, if◌then◌else◌, map, slice_index_or, slice_set}
+use Rattle.std.specs.Prelude.{◌≡◌, ◌≢◌, ℕ, zero, suc, ◌+◌, ◌<◌, ◌⊎◌, List, length, Bool, true, false, ◌==◌, Option, Some, None, if◌then◌else◌, map}
+use Rattle.std.specs.Prelude.{slice_index_or, slice_set}
 use Rattle.std.specs.List.{range_with_len}
 use Rattle.geometry.specs.declared.geometry.Geometry.{Geometry}
 use Rattle.geometry.specs.Numbers.{entries}
@@ -118,11 +119,13 @@ OtherSortsStay g = (sorts : ℕ → Sort) (sort : Sort) (p block : ℕ) → is_e
 
 -- Of all blocks but one it changes the one that the page lies in, and none if it lies in that one.
 abbrev pub SortsAtBlock : Geometry → Type 0
-SortsAtBlock g = (sorts : ℕ → Sort) (sort : Sort) (p : ℕ) → is_entry_page g p ≡ true → others_by g (with_sort p sort sorts) (block_of g p) ≡ others_by g sorts (block_of g p)
+SortsAtBlock g = (sorts : ℕ → Sort) (sort : Sort) (p : ℕ) → is_entry_page g p ≡ true →
+    others_by g (with_sort p sort sorts) (block_of g p) ≡ others_by g sorts (block_of g p)
 
 abbrev pub SortsBeside : Geometry → Type 0
 SortsBeside g = (sorts : ℕ → Sort) (sort : Sort) (p block : ℕ) → is_entry_page g p ≡ true → block < g.blocks → block_of g p ≢ block →
-    others_by g (with_sort p sort sorts) block ≡ slice_set (others_by g sorts block) (beside block (block_of g p)) (counts_by g (with_sort p sort sorts) (block_of g p))
+    others_by g (with_sort p sort sorts) block
+    ≡ slice_set (others_by g sorts block) (beside block (block_of g p)) (counts_by g (with_sort p sort sorts) (block_of g p))
 
 -- what stands at a block beside another one
 pub record StandsBeside (g : Geometry) (sorts : ℕ → Sort) (block other : ℕ) : Type 0 where
@@ -138,7 +141,8 @@ pub record IsPlaceBy (g : Geometry) (sorts : ℕ → Sort) (block : ℕ) (k : Ki
   pub entry : is_entry_page g to ≡ true
   pub apart : block_of g to ≢ block
   pub free : sorts to ≡ Free
-  pub rule : (kind_of (counts_by g sorts (block_of g to)) ≡ k) ⊎ ((kind_of (counts_by g sorts (block_of g to)) ≡ unused) × (free_of k (others_by g sorts block) ≡ 0))
+  pub rule : (kind_of (counts_by g sorts (block_of g to)) ≡ k)
+      ⊎ ((kind_of (counts_by g sorts (block_of g to)) ≡ unused) × (free_of k (others_by g sorts block) ≡ 0))
 
 -- A page may be put there.
 abbrev pub PlaceCanPut : Geometry → Type 0

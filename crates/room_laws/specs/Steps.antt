@@ -38,7 +38,8 @@ ReachedStart = (e : ℕ) (r : List Counts) → All (IsBlock e) r → Reached e r
 
 -- One step puts an index page.
 abbrev pub ReachedIndex : Type 0
-ReachedIndex = (e : ℕ) (r s : List Counts) (n i : ℕ) (c : Counts) → Reached e r s n → CanPut s for_index i c → Reached e r (slice_set s i (placed for_index c)) n
+ReachedIndex = (e : ℕ) (r s : List Counts) (n i : ℕ) (c : Counts) → Reached e r s n → CanPut s for_index i c →
+    Reached e r (slice_set s i (placed for_index c)) n
 
 -- One step puts a data page.
 abbrev pub ReachedData : Type 0
@@ -46,11 +47,13 @@ ReachedData = (e : ℕ) (r s : List Counts) (n i : ℕ) (c : Counts) → Reached
 
 -- One step kills an index page.
 abbrev pub ReachedKill : Type 0
-ReachedKill = (e : ℕ) (r s : List Counts) (n i : ℕ) (c : Counts) → Reached e r s n → i < length s → slice_index_or s i c ≡ c → kind_of c ≡ for_index → 0 < c.index →
+ReachedKill = (e : ℕ) (r s : List Counts) (n i : ℕ) (c : Counts) → Reached e r s n → i < length s → slice_index_or s i c ≡ c →
+    kind_of c ≡ for_index → 0 < c.index →
     Reached e r (slice_set s i (killed c)) (n + 1)
 
 -- Once the cleaned block is fresh these steps were a cleaning.
 abbrev pub ReachedEnd : Type 0
 ReachedEnd = (e : ℕ) (c d : Counts) (r s : List Counts) (n : ℕ) → IsVolume e (c ∷ r) → Reached e r s n → (kind_of c ≡ for_index → n ≡ 0) →
-    blocks_of for_index s ≤ blocks_of for_index r + 1 → d.index ≡ 0 → d.pages ≡ 0 → d.deleted ≡ 0 → d.free ≡ e → index_total s ≡ c.index + index_total r → pages_total s ≡ c.pages + pages_total r →
+    blocks_of for_index s ≤ blocks_of for_index r + 1 → d.index ≡ 0 → d.pages ≡ 0 → d.deleted ≡ 0 → d.free ≡ e → index_total s ≡ c.index + index_total r →
+    pages_total s ≡ c.pages + pages_total r →
     Cleaned e (c ∷ r) c (d ∷ s)

@@ -17,7 +17,8 @@ HasBound g image = ceil (index_count g (table_of g image)) (entries g) + data_bl
 
 -- The blocks hold the pages of the table with so many more of each kind, and two are left.
 abbrev pub HasRoomFor : Geometry → List ℕ → (index pages : ℕ) → Type 0
-HasRoomFor g image index pages = ceil (index_count g (table_of g image) + index) (entries g) + ceil (data_count g (table_of g image) + pages) (entries g) + 2 ≤ g.blocks
+HasRoomFor g image index pages =
+    ceil (index_count g (table_of g image) + index) (entries g) + ceil (data_count g (table_of g image) + pages) (entries g) + 2 ≤ g.blocks
 
 -- a number that each cleaning lowers
 unfoldable pub gc_measure : Geometry → List ℕ → ℕ
@@ -44,7 +45,8 @@ ReserveFitsEach g = (image : List ℕ) (block : ℕ) → IsTidy g image → HasR
 
 -- With one free block the chosen block has no live data page.
 abbrev pub LastFreeIsPlain : Geometry → Type 0
-LastFreeIsPlain g = (image : List ℕ) (block : ℕ) → CanClean g image → free_blocks g image < 2 → chosen_block g image ≡ Some block → is_data_block g image block ≡ false
+LastFreeIsPlain g = (image : List ℕ) (block : ℕ) → CanClean g image → free_blocks g image < 2 → chosen_block g image ≡ Some block →
+    is_data_block g image block ≡ false
 
 -- Where no block is chosen two blocks are free.
 abbrev pub StoppedHasReserve : Geometry → Type 0
@@ -70,17 +72,21 @@ NoWorthIsPacked g = (image : List ℕ) → IsImage g image → IsTidy g image �
 
 -- Whatever is free, where no block is chosen and collection isn't stuck, no block is worth cleaning.
 abbrev pub UnstuckHasNoWorth : Geometry → Type 0
-UnstuckHasNoWorth g = (image : List ℕ) (block : ℕ) → IsTidy g image → chosen_block g image ≡ None → is_stuck g image ≡ false → block < g.blocks → is_worth g image block ≡ false
+UnstuckHasNoWorth g = (image : List ℕ) (block : ℕ) → IsTidy g image → chosen_block g image ≡ None → is_stuck g image ≡ false → block < g.blocks →
+    is_worth g image block ≡ false
 
 -- Then all pages for which there is room are had, with two free blocks.
 abbrev pub UnstuckHasPages : Geometry → Type 0
-UnstuckHasPages g = (image : List ℕ) (index pages : ℕ) → IsImage g image → IsTidy g image → chosen_block g image ≡ None → is_stuck g image ≡ false → HasRoomFor g image index pages →
+UnstuckHasPages g = (image : List ℕ) (index pages : ℕ) → IsImage g image → IsTidy g image → chosen_block g image ≡ None → is_stuck g image ≡ false →
+    HasRoomFor g image index pages →
     HasReserve g image × (are_had g image index pages ≡ true)
 
 -- Where there is room for pages they are had once no block is chosen.
 abbrev pub StoppedHasPages : Geometry → Type 0
-StoppedHasPages g = (image : List ℕ) (index pages : ℕ) → CanClean g image → HasRoomFor g image index pages → chosen_block g image ≡ None → are_had g image index pages ≡ true
+StoppedHasPages g = (image : List ℕ) (index pages : ℕ) → CanClean g image → HasRoomFor g image index pages → chosen_block g image ≡ None →
+    are_had g image index pages ≡ true
 
 -- There is room for pages that are had with two free blocks.
 abbrev pub HadNeedsRoom : Geometry → Type 0
-HadNeedsRoom g = (image : List ℕ) (index pages : ℕ) → IsImage g image → IsTidy g image → HasReserve g image → are_had g image index pages ≡ true → HasRoomFor g image index pages
+HadNeedsRoom g = (image : List ℕ) (index pages : ℕ) → IsImage g image → IsTidy g image → HasReserve g image → are_had g image index pages ≡ true →
+    HasRoomFor g image index pages

@@ -21,10 +21,12 @@ TagsAreOnce g = (a : List ℕ) (p q : ℕ) (x y : List ℕ) → IsImage g a → 
 
 -- Of two tidy images with one table each live page of the one has its tag in the other.
 abbrev pub TagsAreKept : Geometry → Type 0
-TagsAreKept g = (a b : List ℕ) (p : ℕ) (x : List ℕ) → IsImage g a → IsImage g b → IsTidy g a → IsTidy g b → table_of g b ≡ table_of g a → live_at g a p ≡ Some x →
+TagsAreKept g = (a b : List ℕ) (p : ℕ) (x : List ℕ) → IsImage g a → IsImage g b → IsTidy g a → IsTidy g b → table_of g b ≡ table_of g a →
+    live_at g a p ≡ Some x →
     (q : ℕ) × (y : List ℕ) × (live_at g b q ≡ Some y) × SameTag x y
 
 -- In a tidy image the index page of a data page's span names it.
 abbrev pub TagsAreNamed : Geometry → Type 0
-TagsAreNamed g = (a : List ℕ) (p w : ℕ) (x y : List ℕ) → IsImage g a → IsTidy g a → live_at g a p ≡ Some x → names_index x ≡ false → live_at g a w ≡ Some y → names_index y ≡ true →
+TagsAreNamed g = (a : List ℕ) (p w : ℕ) (x y : List ℕ) → IsImage g a → IsTidy g a → live_at g a p ≡ Some x → names_index x ≡ false →
+    live_at g a w ≡ Some y → names_index y ≡ true →
     obj_id y % 0x8000 ≡ obj_id x % 0x8000 → span_of y ≡ index_span g (span_of x) → slot_word g y (span_of x) ≡ p

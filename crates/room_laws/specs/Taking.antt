@@ -33,8 +33,10 @@ KindsAreTested g = (image : List ℕ) (block : ℕ) (k : Kind) → TellsFree g i
 -- A free page outside a block, of a block that takes pages of the kind, or that is free where all that take them are full, is a
 -- place by the rule.
 abbrev pub PlacesAreBy : Geometry → Type 0
-PlacesAreBy g = (image : List ℕ) (block : ℕ) (k : Kind) (to : ℕ) → TellsFree g image → block < g.blocks → All (IsBlock (entries g)) (others_by g (sort_at g image) block) →
-    is_entry_page g to ≡ true → block_of g to ≢ block → is_free_entry g image to ≡ true → (is_free_block g image (block_of g to) ≡ false → takes_as g image k (block_of g to) ≡ true) →
+PlacesAreBy g = (image : List ℕ) (block : ℕ) (k : Kind) (to : ℕ) → TellsFree g image → block < g.blocks →
+    All (IsBlock (entries g)) (others_by g (sort_at g image) block) →
+    is_entry_page g to ≡ true → block_of g to ≢ block → is_free_entry g image to ≡ true →
+    (is_free_block g image (block_of g to) ≡ false → takes_as g image k (block_of g to) ≡ true) →
     (is_free_block g image (block_of g to) ≡ true → IsFullBeside g image block k) → IsPlaceBy g (sort_at g image) block k to
 
 -- a free block outside one
@@ -47,5 +49,7 @@ pub record HasFreeBeside (g : Geometry) (image : List ℕ) (block : ℕ) : Type 
 
 -- Where pages of a kind find places outside a block, and no block there has a free entry for them, one is free there.
 abbrev pub PlacesAreFound : Geometry → Type 0
-PlacesAreFound g = (image : List ℕ) (block : ℕ) (k : Kind) (index pages : ℕ) → TellsFree g image → block < g.blocks → All (IsBlock (entries g)) (others_by g (sort_at g image) block) →
-    HadWith (entries g) (others_by g (sort_at g image) block) 0 index pages → 0 < of_kind k index pages → IsFullBeside g image block k → HasFreeBeside g image block
+PlacesAreFound g = (image : List ℕ) (block : ℕ) (k : Kind) (index pages : ℕ) → TellsFree g image → block < g.blocks →
+    All (IsBlock (entries g)) (others_by g (sort_at g image) block) →
+    HadWith (entries g) (others_by g (sort_at g image) block) 0 index pages → 0 < of_kind k index pages → IsFullBeside g image block k →
+    HasFreeBeside g image block

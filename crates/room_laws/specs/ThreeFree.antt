@@ -8,7 +8,8 @@ use Rattle.room_laws.specs.Mending.{Mending}
 
 -- A cut leaves a volume that cleanings mend.
 abbrev pub ThreeCutMends : Type 0
-ThreeCutMends = (e : ℕ) (c : Counts) (r : List Counts) (d : Counts) (s : List Counts) → IsVolume e (c ∷ r) → IsVolume e (d ∷ s) → length s ≡ length r → 3 ≤ blocks_of unused r →
+ThreeCutMends = (e : ℕ) (c : Counts) (r : List Counts) (d : Counts) (s : List Counts) → IsVolume e (c ∷ r) → IsVolume e (d ∷ s) → length s ≡ length r →
+    3 ≤ blocks_of unused r →
     CutIndex e c r d s ⊎ CutData e c r d s → Mending e (d ∷ s)
 
 -- Done, two blocks are free.

@@ -67,7 +67,8 @@ WayPut g = (moves : List Move) (was image cut : List ℕ) (move : Move) (old cop
 
 -- A page of the first image is killed, done or cut off.
 abbrev pub WayKill : Geometry → Type 0
-WayKill g = (moves : List Move) (was image cut : List ℕ) (p : ℕ) (old : List ℕ) → OnWay g moves was image → KillLeaves g p image cut → live_at g was p ≡ Some old → OnWay g moves was cut
+WayKill g = (moves : List Move) (was image cut : List ℕ) (p : ℕ) (old : List ℕ) → OnWay g moves was image → KillLeaves g p image cut →
+    live_at g was p ≡ Some old → OnWay g moves was cut
 
 -- What is done is also what a cut may leave.
 abbrev pub DoneLeaves : Geometry → Type 0
@@ -96,7 +97,8 @@ pub record Resolves (g : Geometry) (moves : List Move) (was now : ℕ → Sort) 
 
 -- Of an image with pages on their way, the stages of a check leave each at one of its two places.
 abbrev pub WayResolves : Geometry → Type 0
-WayResolves g = (moves : List Move) (was image now : List ℕ) → IsImage g was → IsTidy g was → AreMoves g was moves → OnWay g moves was image → table_of g image ≡ table_of g was →
+WayResolves g = (moves : List Move) (was image now : List ℕ) → IsImage g was → IsTidy g was → AreMoves g was moves → OnWay g moves was image →
+    table_of g image ≡ table_of g was →
     IsImage g now → IsStaged g image now → Resolves g moves (sort_at g was) (sort_at g now)
 
 -- The data page of a move is named by an index page.
@@ -109,7 +111,8 @@ pub record IsNamedBy (g : Geometry) (was : List ℕ) (index : List ℕ) (move : 
 
 -- Once the index page of a batch is renewed it names the place of a move.
 abbrev pub IsRenamed : Geometry → (was image : List ℕ) (to : ℕ) → Move → Type 0
-IsRenamed g was image to move = (page copy : List ℕ) → live_at g was move.from ≡ Some page → live_at g image to ≡ Some copy → slot_word g copy (span_of page) ≡ move.to
+IsRenamed g was image to move = (page copy : List ℕ) → live_at g was move.from ≡ Some page → live_at g image to ≡ Some copy →
+    slot_word g copy (span_of page) ≡ move.to
 
 -- A batch: an index page that names the data pages of some moves, and is renewed.
 pub record IsBatch (g : Geometry) (was image : List ℕ) (index : Move) (moves : List Move) : Type 0 where
@@ -121,12 +124,15 @@ pub record IsBatch (g : Geometry) (was image : List ℕ) (index : Move) (moves :
 
 -- All moves of a batch end alike.
 abbrev pub BatchResolves : Geometry → Type 0
-BatchResolves g = (index : Move) (moves : List Move) (was image now : List ℕ) → IsImage g was → IsTidy g was → AreMoves g was (index ∷ moves) → OnWay g (index ∷ moves) was image →
+BatchResolves g = (index : Move) (moves : List Move) (was image now : List ℕ) → IsImage g was → IsTidy g was → AreMoves g was (index ∷ moves) →
+    OnWay g (index ∷ moves) was image →
     table_of g image ≡ table_of g was → IsBatch g was image index moves → IsImage g now → IsStaged g image now →
     All (Came (sort_at g was) (sort_at g now)) (index ∷ moves) ⊎ All (Stayed (sort_at g was) (sort_at g now)) (index ∷ moves)
 
 -- Until its index page is put they all stay.
 abbrev pub BatchStays : Geometry → Type 0
-BatchStays g = (at : ℕ) (page : List ℕ) (moves : List Move) (was image now : List ℕ) → IsImage g was → IsTidy g was → AreMoves g was moves → OnWay g moves was image →
-    table_of g image ≡ table_of g was → live_at g was at ≡ Some page → names_index page ≡ true → All (IsNamedBy g was page) moves → IsImage g now → IsStaged g image now →
+BatchStays g = (at : ℕ) (page : List ℕ) (moves : List Move) (was image now : List ℕ) → IsImage g was → IsTidy g was → AreMoves g was moves →
+    OnWay g moves was image →
+    table_of g image ≡ table_of g was → live_at g was at ≡ Some page → names_index page ≡ true → All (IsNamedBy g was page) moves →
+    IsImage g now → IsStaged g image now →
     All (Stayed (sort_at g was) (sort_at g now)) moves

@@ -1,5 +1,6 @@
 ghost use Rattle.geometry.specs.declared.geometry.Geometry.{Geometry};
-ghost use Rattle.room_laws.specs.Batching.{CarryingStarts, CarryingIsCounted, CarryingPlaces, CarryingPuts, CarryingIsCut, RenewingLeaves, RenewedIsBatch, KilledIsBatch};
+ghost use Rattle.room_laws.specs.Batching.{CarryingStarts, CarryingIsCounted, CarryingPlaces, CarryingPuts, CarryingIsCut, RenewingLeaves, RenewedIsBatch};
+ghost use Rattle.room_laws.specs.Batching.{KilledIsBatch};
 
 /// Copies of a batch's data pages are put one after the other, and what remains has places.
 pub fn batches_are_carried()

@@ -1,5 +1,6 @@
 ghost use Rattle.geometry.specs.declared.geometry.Geometry.{Geometry};
-ghost use Rattle.room_laws.specs.Sorts.{TidyTellsFree, NeatTellsFree, CountsBySorts, AllBySorts, SameSorts, SortsAreWhole, SortsChange, SortsAreCounted, OtherSortsStay, SortsAtBlock, SortsBeside, BlocksBeside, PlaceCanPut};
+ghost use Rattle.room_laws.specs.Sorts.{TidyTellsFree, NeatTellsFree, CountsBySorts, AllBySorts, SameSorts, SortsAreWhole, SortsChange, SortsAreCounted};
+ghost use Rattle.room_laws.specs.Sorts.{OtherSortsStay, SortsAtBlock, SortsBeside, BlocksBeside, PlaceCanPut};
 
 /// The counts of an image are those by what its entries count as.
 pub fn sorts_are_counts()

@@ -1,5 +1,6 @@
 ghost use Rattle.geometry.specs.declared.geometry.Geometry.{Geometry};
-ghost use Rattle.room_laws.specs.Stopping.{ReserveCanClean, ReserveFitsEach, LastFreeIsPlain, StoppedHasReserve, StoppedHasNoWorth, NeverStuck, StoppedHasPages, HadNeedsRoom, NoWorthIsPacked, UnstuckHasNoWorth, UnstuckHasPages};
+ghost use Rattle.room_laws.specs.Stopping.{ReserveCanClean, ReserveFitsEach, LastFreeIsPlain, StoppedHasReserve, StoppedHasNoWorth, NeverStuck};
+ghost use Rattle.room_laws.specs.Stopping.{StoppedHasPages, HadNeedsRoom, NoWorthIsPacked, UnstuckHasNoWorth, UnstuckHasPages};
 
 /// An image with its reserve can be cleaned, whichever block is chosen.
 pub fn reserve_is_enough()

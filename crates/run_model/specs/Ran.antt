@@ -22,7 +22,8 @@ pub record RunStands {D : Type 0} (nor : NorOf D) (g : Geometry) (d : D) (memory
 
 -- What a cut in a call of a run may leave: an image that may follow, with a table from the settled one to the last step of the call.
 abbrev pub RunPublishes : Geometry → Memory → Moment → Ask → List ℕ → List ℕ → Type 0
-RunPublishes g memory m ask was image = IsAt g was memory m → HasReserve g was → IsSafe g was image × IsAmong (table_of g image) (from_settled m (steps g true m.state ask))
+RunPublishes g memory m ask was image = IsAt g was memory m → HasReserve g was →
+    IsSafe g was image × IsAmong (table_of g image) (from_settled m (steps g true m.state ask))
 
 -- a call of a run was answered as the flat table is, and the volume stands at the moment after it
 pub record RunAnswers {D : Type 0} (nor : NorOf D) (g : Geometry) (old new : D) (memory : Memory) (m : Moment) (ask : Ask) (reply : Answer) : Type 0 where

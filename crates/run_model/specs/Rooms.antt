@@ -17,4 +17,5 @@ IsRoomy g m asks = (has_room g m.state.table ≡ true) ⊎ AllFindRoom g m asks
 
 -- Then each call is answered as with two free blocks.
 abbrev pub RoomyIsPlain : Geometry → Type 0
-RoomyIsPlain g = (m : Moment) (calls : List RunCall) (later : List Ask) → IsRoomy g m (asks_of calls ++ later) → AreFair g m calls → calls ≡ plain (asks_of calls)
+RoomyIsPlain g = (m : Moment) (calls : List RunCall) (later : List Ask) → IsRoomy g m (asks_of calls ++ later) → AreFair g m calls →
+    calls ≡ plain (asks_of calls)

@@ -1,5 +1,5 @@
-//! Commands on devices in memory: images made by hand or damaged at random, what the plain programs tell of an image, runs compared with the flat table, and runs whose
-//! power is cut or in which the device fails. It serves tests.
+//! Commands on devices in memory: images made by hand or damaged at random, what the plain programs tell of an image, runs compared with the flat table,
+//! and runs whose power is cut or in which the device fails. It serves tests.
 #![tactic(auto)]
 
 mod agreement;

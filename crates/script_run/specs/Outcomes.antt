@@ -74,7 +74,8 @@ WhyEnds script left front later SourceFault = IsTakenTo script left front
 WhyEnds script left front later _ = ⊥
 
 -- a run came to the moment after the first of its script's calls, and ends there
-pub record Went {D : Type 0} (nor : NorOf D) (g : Geometry) (old new : D) (was now : Memory) (m : Moment) (script left : List ℕ) (ending : Ending) : Type 0 where
+pub record Went {D : Type 0} (nor : NorOf D) (g : Geometry) (old new : D) (was now : Memory) (m : Moment) (script left : List ℕ)
+    (ending : Ending) : Type 0 where
   pub front : List Ask
   pub later : List Ask
   pub asks_are : calls script ≡ front ++ later

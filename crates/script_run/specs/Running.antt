@@ -72,7 +72,8 @@ pub record Closes {D : Type 0} (nor : NorOf D) (g : Geometry) (old new : D) (m :
   pub tidy : begin_refusal g (nor.bytes old) (nor.bytes new) ≡ None → IsTidy g (nor.bytes new)
   pub stuck : (n : ℕ) → ending ≡ Tight n → chosen_block g (nor.bytes new) ≡ None
   pub holds : Holds g (nor.bytes old) (nor.bytes new)
-  pub cuts : Leaves nor old new (λ image count. CallCut nor g old m front image count ⊎ ClosingCut nor g old new (replies g m front) (closing_line_of ending) image count)
+  pub cuts : Leaves nor old new
+      (λ image count. CallCut nor g old m front image count ⊎ ClosingCut nor g old new (replies g m front) (closing_line_of ending) image count)
 
 -- what a run leaves and answers
 abbrev pub Outcome : {D : Type 0} (nor : NorOf D) (g : Geometry) (old new : D) (m : Moment) (script left : List ℕ) (status : ℕ) → Type 0
@@ -109,20 +110,23 @@ pub record IsComplete (script : List ℕ) (status : ℕ) : Type 0 where
   pub bad_line : length script ≤ 16777216 → (number : ℕ) → HasBad script number → status ≡ 5
 
 -- A run mounts and checks the volume, and does the calls of the script.
-pub record DoesRun {D X : Type 0} (nor : NorOf D) (source : SourceOf X) (g : Geometry) (lent : Lengths) (old new : D) (script after : X) (status : ℕ) : Type 0 where
+pub record DoesRun {D X : Type 0} (nor : NorOf D) (source : SourceOf X) (g : Geometry) (lent : Lengths) (old new : D) (script after : X)
+    (status : ℕ) : Type 0 where
   -- The replies to some first calls are said, then a closing line, whose cause stands beside it; the table is that after these calls, and a
   -- cut at any moment leaves what they may. Each is answered as the flat table is with two free blocks, but in the corner, where the table has
   -- no room for the index page that a cut of a file needs: there it may be Tight.
   pub outcome : source.tells script → nor.tells old → Outcome nor g old new (first_of g lent (nor.bytes old)) (source.left script) (source.left after) status
   -- with status 0 it was the whole script
-  pub whole : source.tells script → nor.tells old → status ≡ 0 → RanWhole nor g old new (first_of g lent (nor.bytes old)) (source.left script) (source.left after)
+  pub whole : source.tells script → nor.tells old → status ≡ 0 →
+      RanWhole nor g old new (first_of g lent (nor.bytes old)) (source.left script) (source.left after)
   -- the status, if it isn't 7, is that of the images, where they end the run, or else one of a script ..
   pub begins : nor.tells old → status ≢ 7 → BeginsAs (begin_refusal g (nor.bytes old) (nor.bytes new)) status
   -- .. and, if it isn't 8, that of this script
   pub complete : source.tells script → nor.tells old → status ≢ 7 → status ≢ 8 →
       begin_refusal g (nor.bytes old) (nor.bytes new) ≡ None → IsComplete (source.left script) status
   -- an image that isn't taken stays, where the board fails too, and its closing line is said alone
-  pub refused : nor.tells old → (ending : Ending) → check_refusal g (nor.bytes old) ≡ Some ending → Concludes nor old new [] ending status × WritesNone nor old new
+  pub refused : nor.tells old → (ending : Ending) → check_refusal g (nor.bytes old) ≡ Some ending →
+      Concludes nor old new [] ending status × WritesNone nor old new
   -- an image that the check takes and gives two free blocks has them after the check, and so has the last one, if the board didn't fail
   pub mends : nor.tells old → IsMendable g (nor.bytes old) → HasMended nor g new status
   -- whatever is told, time goes on, and the bytes behind the volume stay

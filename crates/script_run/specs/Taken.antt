@@ -27,5 +27,6 @@ CutCallsMend {D} nor g = (old : D) (m : Moment) (calls : List RunCall) (image : 
 
 -- Where the check gives the first image two free blocks, it gives them to what a cut in a run leaves, once a byte was said.
 abbrev pub CutRunsMend : {D : Type 0} → NorOf D → Geometry → Type 0
-CutRunsMend {D} nor g = (old new : D) (m : Moment) (script left : List ℕ) (status : ℕ) → IsMendable g (nor.bytes old) → Outcome nor g old new m script left status →
+CutRunsMend {D} nor g = (old new : D) (m : Moment) (script left : List ℕ) (status : ℕ) → IsMendable g (nor.bytes old) →
+    Outcome nor g old new m script left status →
     Leaves nor old new (λ image count. length (nor.said old) < count → IsMendable g image)

@@ -15,7 +15,8 @@ use Rattle.tool_parts.specs.declared.ending.Ending.{Ending}
 use Rattle.tool_parts.specs.declared.ending.Ending.TheVariants.{Done, BadLine, BoardFault, SourceFault, TooLong}
 
 -- What doing a call leaves: what a run may at each cut, and its answer, or that the board failed. `lent` are the bytes for what is read.
-pub record DoesCall {D : Type 0} (nor : NorOf D) (g : Geometry) (old new : D) (was now : Memory) (ask : Ask) (result : Result Told Ending) (lent : List ℕ) : Type 0 where
+pub record DoesCall {D : Type 0} (nor : NorOf D) (g : Geometry) (old new : D) (was now : Memory) (ask : Ask) (result : Result Told Ending)
+    (lent : List ℕ) : Type 0 where
   pub changes : (m : Moment) → Changes nor old new (RunPublishes g was m ask)
   pub answers : (m : Moment) → RunStands nor g old was m → IfOk result (λ told. IsTold nor g old new now m ask (shown_by told lent))
   pub stops : (m : Moment) → RunStands nor g old was m → IfErr result (λ ending. ending ≡ BoardFault)
@@ -23,7 +24,8 @@ pub record DoesCall {D : Type 0} (nor : NorOf D) (g : Geometry) (old new : D) (w
   pub works : StandsNow nor g old was → WorksTo nor g new now (result_err result)
 
 -- what doing the line of that number leaves, by how the run ends there
-abbrev pub DidLine : {D : Type 0} (nor : NorOf D) (g : Geometry) (old new : D) (was now : Memory) (m : Moment) (line : List ℕ) (number : ℕ) → Option Ending → Type 0
+abbrev pub DidLine : {D : Type 0} (nor : NorOf D) (g : Geometry) (old new : D) (was now : Memory) (m : Moment) (line : List ℕ) (number : ℕ) → Option Ending →
+    Type 0
 DidLine nor g old new was now m line number None = (of_line line ≡ Bad → ⊥) × Reached nor g old new now m (calls_of (line ∷ []))
 DidLine nor g old new was now m line number (Some (BadLine n)) = (of_line line ≡ Bad) × (n ≡ number) × Reached nor g old new now m []
 DidLine nor g old new was now m line number (Some BoardFault) = (of_line line ≡ Bad → ⊥) × SaidPart nor g old new m (calls_of (line ∷ []))
@@ -47,8 +49,8 @@ pub record Short (tail a b : List ℕ) : Type 0 where
   pub no_break : NoBreak a
   pub few : length a ≤ 4096
 
--- A run between two turns: the device, what the volume remembers beside it, the bytes that were taken and are in no line that was done, those that the script has
--- left, how many were taken, and how many lines were handed out.
+-- A run between two turns: the device, what the volume remembers beside it, the bytes that were taken and are in no line that was done,
+-- those that the script has left, how many were taken, and how many lines were handed out.
 pub record At (D : Type 0) : Type 0 where
   pub device : D
   pub memory : Memory
@@ -59,7 +61,8 @@ pub record At (D : Type 0) : Type 0 where
 
 -- a run by its device and memory, the bytes in its buffer, and what its script has left
 abbrev pub at_run : {D : Type 0} (d : D) (memory : Memory) (buf : List ℕ) (start end taken handed : ℕ) (left : List ℕ) → At D
-at_run d memory buf start end taken handed left = record { device = d; memory = memory; pending = slice_range buf start end; left = left; taken = taken; handed = handed }
+at_run d memory buf start end taken handed left =
+    record { device = d; memory = memory; pending = slice_range buf start end; left = left; taken = taken; handed = handed }
 
 -- which bytes may stand behind the lines that were done, so that the lines are still these
 abbrev pub Follows : Option Ending → List ℕ → List ℕ → Type 0

@@ -35,7 +35,8 @@ pub(crate) fn apply<B: Board>(
     ensures no_script { ¬ (result ≡ Err Ending.SourceFault) }
     ensures same { IsSameVolume volume.old volume.new }
     ensures brief { IfOk result (λ told. (bytes : List ℕ) → shown_by told lent.new ≡ Gives bytes → length bytes ≤ 1024) }
-    ensures does { DoesCall B.NorState volume.old.geometry volume.old.nor.now volume.new.nor.now (memory volume.old) (memory volume.new) (asked call.now) result lent.new }
+    ensures does { DoesCall B.NorState volume.old.geometry volume.old.nor.now volume.new.nor.now (memory volume.old) (memory volume.new)
+        (asked call.now) result lent.new }
 {
     match volume.answer(call, lent) {
         Told::Refusal(FsErr::DeviceFault) => Err(Ending::BoardFault),

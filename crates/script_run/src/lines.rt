@@ -86,7 +86,8 @@ impl<'l> Lines<'l> {
     }
 
     fn at_break(&self) -> Option<usize>
-        ensures found { IfSome result (λ i. (self.now.start + i < self.now.end) × NoBreak (slice_range self.now.buf.now self.now.start (self.now.start + i)) × (slice_range self.now.buf.now self.now.start self.now.end
+        ensures found { IfSome result (λ i. (self.now.start + i < self.now.end) × NoBreak (slice_range self.now.buf.now self.now.start (self.now.start + i))
+            × (slice_range self.now.buf.now self.now.start self.now.end
             ≡ slice_range self.now.buf.now self.now.start (self.now.start + i) ++ 10 ∷ slice_range self.now.buf.now (self.now.start + i + 1) self.now.end)) }
         ensures none { IfNone result (NoBreak (slice_range self.now.buf.now self.now.start self.now.end)) }
     {
@@ -129,11 +130,14 @@ impl<'l> Lines<'l> {
         ensures same_buf { self.new.buf.ghost_name ≡ self.old.buf.ghost_name }
         ensures handed { self.new.handed ≡ self.old.handed }
         ensures more { IfOk result (λ n. (self.new.taken ≡ self.old.taken + n) × (self.new.start ≡ 0) × (self.new.end ≡ (self.old.end - self.old.start) + n)) }
-        ensures rest { S.tells source.old → slice_range self.old.buf.now self.old.start self.old.end ++ S.left source.old ≡ slice_range self.new.buf.now self.new.start self.new.end ++ S.left source.new }
+        ensures rest { S.tells source.old → slice_range self.old.buf.now self.old.start self.old.end ++ S.left source.old
+            ≡ slice_range self.new.buf.now self.new.start self.new.end ++ S.left source.new }
         ensures finished { S.tells source.old → IfOk result (λ n. n ≡ 0 → S.left source.old ≡ []) }
         ensures finished_new { S.tells source.old → IfOk result (λ n. n ≡ 0 → S.left source.new ≡ []) }
-        ensures finished_same { IfOk result (λ n. n ≡ 0 → slice_range self.new.buf.now self.new.start self.new.end ≡ slice_range self.old.buf.now self.old.start self.old.end) }
-        ensures err { OnErr result ((slice_range self.new.buf.now self.new.start self.new.end ≡ slice_range self.old.buf.now self.old.start self.old.end) × (S.left source.new ≡ S.left source.old)) }
+        ensures finished_same { IfOk result
+            (λ n. n ≡ 0 → slice_range self.new.buf.now self.new.start self.new.end ≡ slice_range self.old.buf.now self.old.start self.old.end) }
+        ensures err { OnErr result ((slice_range self.new.buf.now self.new.start self.new.end ≡ slice_range self.old.buf.now self.old.start self.old.end)
+            × (S.left source.new ≡ S.left source.old)) }
         ensures told { S.tells source.old → S.tells source.new }
         ensures faults { S.faults source.old ≤ S.faults source.new }
         ensures cause { OnErr result (Rose (S.faults source.old) (S.faults source.new)) }

@@ -75,9 +75,13 @@ fn run_volume<B: Board, S: Source>(
     ensures same { IsSameVolume volume.old volume.new }
     ensures script_faults { S.faults script.old ≤ S.faults script.new }
     ensures script_cause { result ≡ Ending.SourceFault → Rose (S.faults script.old) (S.faults script.new) }
-    ensures ends { (slots : ℕ) → memory volume.old ≡ closed_memory slots → S.tells script.old → B.tells volume.old.nor.now → RunsTo B.NorState volume.old.geometry volume.old.nor.now volume.new.nor.now (first_moment volume.old.geometry slots (B.bytes volume.old.nor.now)) (S.left script.old) (S.left script.new) result }
-    ensures refused { B.tells volume.old.nor.now → (ending : Ending) → check_refusal volume.old.geometry (B.bytes volume.old.nor.now) ≡ Some ending → Refused B.NorState volume.old.geometry volume.old.nor.now volume.new.nor.now ending result }
-    ensures begins { (slots : ℕ) → memory volume.old ≡ closed_memory slots → B.tells volume.old.nor.now → EndsByImages volume.old.geometry (B.bytes volume.old.nor.now) (B.bytes volume.new.nor.now) result }
+    ensures ends { (slots : ℕ) → memory volume.old ≡ closed_memory slots → S.tells script.old → B.tells volume.old.nor.now →
+        RunsTo B.NorState volume.old.geometry volume.old.nor.now volume.new.nor.now (first_moment volume.old.geometry slots (B.bytes volume.old.nor.now))
+        (S.left script.old) (S.left script.new) result }
+    ensures refused { B.tells volume.old.nor.now → (ending : Ending) → check_refusal volume.old.geometry (B.bytes volume.old.nor.now) ≡ Some ending →
+        Refused B.NorState volume.old.geometry volume.old.nor.now volume.new.nor.now ending result }
+    ensures begins { (slots : ℕ) → memory volume.old ≡ closed_memory slots → B.tells volume.old.nor.now →
+        EndsByImages volume.old.geometry (B.bytes volume.old.nor.now) (B.bytes volume.new.nor.now) result }
 {
     match begin(volume, marks) {
         Err(ending) => ending,
@@ -111,8 +115,10 @@ fn run<'b, B: Board, S: Source>(
     ensures board_faults { B.faults board.old ≤ B.faults board.new }
     ensures board_cause { result ≡ Ending.BoardFault → Rose (B.faults board.old) (B.faults board.new) }
     ensures few { ReadsOnce B.NorState g (length lent.entry.cache.now) board.old board.new }
-    ensures ends { S.tells script.old → B.tells board.old → RunsTo B.NorState g board.old board.new (first_moment g (min 65535 (length lent.entry.slots.now)) (B.bytes board.old)) (S.left script.old) (S.left script.new) result }
-    ensures refused { B.tells board.old → (ending : Ending) → check_refusal g (B.bytes board.old) ≡ Some ending → Refused B.NorState g board.old board.new ending result }
+    ensures ends { S.tells script.old → B.tells board.old → RunsTo B.NorState g board.old board.new
+        (first_moment g (min 65535 (length lent.entry.slots.now)) (B.bytes board.old)) (S.left script.old) (S.left script.new) result }
+    ensures refused { B.tells board.old → (ending : Ending) → check_refusal g (B.bytes board.old) ≡ Some ending →
+        Refused B.NorState g board.old board.new ending result }
     ensures begins { B.tells board.old → EndsByImages g (B.bytes board.old) (B.bytes board.new) result }
     ensures behind { StaysBehind B.NorState g board.old board.new }
 {

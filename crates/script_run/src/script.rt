@@ -45,7 +45,8 @@ fn answer<B: Board>(
     ensures ran { Ran B.NorState volume.old.nor.now volume.new.nor.now result (takes_calls volume.new) }
     ensures same { IsSameVolume volume.old volume.new }
     ensures no_script { ¬ (result ≡ Some Ending.SourceFault) }
-    ensures did { (m : Moment) → RunStands B.NorState volume.old.geometry volume.old.nor.now (memory volume.old) m → DidLine B.NorState volume.old.geometry volume.old.nor.now volume.new.nor.now (memory volume.old) (memory volume.new) m line.now number result }
+    ensures did { (m : Moment) → RunStands B.NorState volume.old.geometry volume.old.nor.now (memory volume.old) m →
+        DidLine B.NorState volume.old.geometry volume.old.nor.now volume.new.nor.now (memory volume.old) (memory volume.new) m line.now number result }
     ensures works { Works B.NorState volume.old.geometry volume.old.nor.now volume.new.nor.now (memory volume.old) (memory volume.new) result }
 {
     let Ok(parsed) = parse_line(line, scratch) else {
@@ -156,7 +157,8 @@ fn take_more<B: Board, S: Source>(
     ensures script_cause { result ≡ Some Ending.SourceFault → Rose (S.faults script.old) (S.faults script.new) }
     ensures told { S.tells script.old → S.tells script.new }
     ensures same_buf { lines.new.buf.ghost_name ≡ lines.old.buf.ghost_name }
-    ensures smaller { IfNone result (2 * (16777216 - lines.new.taken) + (lines.new.end - lines.new.start) < 2 * (16777216 - lines.old.taken) + (lines.old.end - lines.old.start)) }
+    ensures smaller { IfNone result
+        (2 * (16777216 - lines.new.taken) + (lines.new.end - lines.new.start) < 2 * (16777216 - lines.old.taken) + (lines.old.end - lines.old.start)) }
     ensures turned { S.tells script.old → Turns B.NorState volume.old.geometry result
         (at_run volume.old.nor.now (memory volume.old) lines.old.buf.now lines.old.start lines.old.end lines.old.taken lines.old.handed (S.left script.old))
         (at_run volume.new.nor.now (memory volume.new) lines.new.buf.now lines.new.start lines.new.end lines.new.taken lines.new.handed (S.left script.new)) }
@@ -199,7 +201,8 @@ fn turn<B: Board, S: Source>(
     ensures script_cause { result ≡ Some Ending.SourceFault → Rose (S.faults script.old) (S.faults script.new) }
     ensures told { S.tells script.old → S.tells script.new }
     ensures same_buf { lines.new.buf.ghost_name ≡ lines.old.buf.ghost_name }
-    ensures smaller { IfNone result (2 * (16777216 - lines.new.taken) + (lines.new.end - lines.new.start) < 2 * (16777216 - lines.old.taken) + (lines.old.end - lines.old.start)) }
+    ensures smaller { IfNone result
+        (2 * (16777216 - lines.new.taken) + (lines.new.end - lines.new.start) < 2 * (16777216 - lines.old.taken) + (lines.old.end - lines.old.start)) }
     ensures turned { S.tells script.old → Turns B.NorState volume.old.geometry result
         (at_run volume.old.nor.now (memory volume.old) lines.old.buf.now lines.old.start lines.old.end lines.old.taken lines.old.handed (S.left script.old))
         (at_run volume.new.nor.now (memory volume.new) lines.new.buf.now lines.new.start lines.new.end lines.new.taken lines.new.handed (S.left script.new)) }
@@ -260,7 +263,8 @@ pub(crate) fn run_script<B: Board, S: Source>(
     ensures same { IsSameVolume volume.old volume.new }
     ensures script_faults { S.faults script.old ≤ S.faults script.new }
     ensures script_cause { result ≡ Ending.SourceFault → Rose (S.faults script.old) (S.faults script.new) }
-    ensures ends { (m : Moment) → S.tells script.old → RunStands B.NorState volume.old.geometry volume.old.nor.now (memory volume.old) m → RunEnds B.NorState volume.old.geometry volume.old.nor.now volume.new.nor.now (memory volume.old) (memory volume.new) m (S.left script.old) (S.left script.new) result }
+    ensures ends { (m : Moment) → S.tells script.old → RunStands B.NorState volume.old.geometry volume.old.nor.now (memory volume.old) m → RunEnds B.NorState
+        volume.old.geometry volume.old.nor.now volume.new.nor.now (memory volume.old) (memory volume.new) m (S.left script.old) (S.left script.new) result }
     ensures works { Works B.NorState volume.old.geometry volume.old.nor.now volume.new.nor.now (memory volume.old) (memory volume.new) (Some result) }
 {
     let (taken, scratch) = line.split_at_mut(LINES);

@@ -8,7 +8,7 @@ use crate::stop::Stop;
 use crate::{BOARD_FAULT, DAMAGED, Memory, REFUSED, Refusal, take_memory};
 use chip_row::ChipRow;
 use front_edge::HostChip;
-use front_words::{Word, place, top_words};
+use front_words::place;
 use geometry::Geometry;
 use host_edge::{Access, StdFolder};
 use nor_core::Nor;
@@ -121,8 +121,7 @@ fn end_unmounted(rt: &HostRuntime, meant: &Meant<'_>, memory: &mut Memory) -> Re
 }
 
 /// Prints the bytes of a file. In its name `%` and two hexadecimal digits stand for a byte.
-pub fn cat(rt: &HostRuntime, meant: &mut Meant<'_>) -> Result<u8, Stop> {
-    meant.top = top_words(rt.alloc(), Word::Ls, &meant.volume, meant.image)?;
+pub fn cat(rt: &HostRuntime, meant: &Meant<'_>) -> Result<u8, Stop> {
     let given = text_of(place(meant.words, 2));
     let name = decoded(rt.alloc(), given.as_bytes())?;
     let mut memory = take_memory(rt, &meant.top)?;

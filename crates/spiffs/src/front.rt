@@ -1,7 +1,7 @@
 //! Words of other tools: what a line means that begins with no command of the top call, and which part does it.
 use crate::cat::cat;
 use crate::give::{Guard, chip_copy, chip_file, end_told, give_on, row_of};
-use crate::meant::{Meant, find_meant};
+use crate::meant::{Meant, find_meant, text_of};
 use crate::picture::picture;
 use crate::room::{df, size};
 use crate::stop::Stop;
@@ -11,12 +11,27 @@ use crate::usage::wrong_word;
 use crate::{Refusal, USAGE, take_memory, tell};
 use chip_row::ChipRow;
 use front_edge::HostChip;
-use front_words::{Asked, Refusal as LineRefusal, Word, read_line};
+use front_words::{Asked, Refusal as LineRefusal, Slot, Word, first_given, read_line};
 use host_edge::{Access, StdFolder};
+
+// The option that a refusal speaks of without naming it: one that isn't known, or whose value is missing.
+fn unnamed(why: LineRefusal) -> Option<Slot> {
+    match why {
+        LineRefusal::NotTaken(Slot::Unknown) => Some(Slot::Unknown),
+        LineRefusal::NotTaken(Slot::NoValue) => Some(Slot::NoValue),
+        _ => None,
+    }
+}
 
 // Says why a line is refused, behind the closing line of a faulty command line.
 fn refuse_line(rt: &HostRuntime, words: &[String], why: LineRefusal) -> u8 {
     let status = tell(rt, "! usage\n", USAGE);
+    if let Some(slot) = unnamed(why) {
+        let given = text_of(first_given(words, slot));
+        // (if standard error fails too there is nobody to tell)
+        let _said = eprintln!(rt; "spiffs: {given}: {why}; try spiffs --help");
+        return status;
+    }
     match (why, wrong_word(words)) {
         (LineRefusal::UnknownWord, Some(wrong)) => {
             // (if standard error fails too there is nobody to tell)
@@ -68,7 +83,7 @@ fn perform(rt: &HostRuntime, words: &[String], asked: Asked) -> Result<u8, Stop>
         Word::Pack | Word::Gen => pack(rt, &mut meant),
         Word::Unpack => unpack(rt, &mut meant),
         Word::Fsck => check(rt, &meant),
-        Word::Cat => cat(rt, &mut meant),
+        Word::Cat => cat(rt, &meant),
         Word::Put => put(rt, &meant),
         Word::Rm => remove(rt, &meant),
         Word::Mv => rename(rt, &meant),

@@ -244,8 +244,8 @@ or a script of more than 16384, is not traced; 21 a page does not read as it was
 written; 22 the chips make no row, or a copy's volumes share one; 23 `run`,
 `check`, `scrub`, `map`, `copy`, `trace` or `rehearse`: ids are damaged on the
 volume, of a copy on the target, and another META reads more whole files,
-nothing was written; 24 a promise is broken; 25 a
-call of `cat`, `put`, `rm` or `mv` is refused. Standard error tells more of
-statuses 1, 3, 4, 7, 8, 9, 13, 18, 22 and 23, what a traced run ended with, what
+nothing was written; 24 a promise is broken; 25 a call
+of `cat`, `put`, `rm` or `mv` is refused. Standard error tells more of statuses
+1, 3, 4, 7, 8, 9, 13, 18, 22, 23 and 25, what a traced run ended with, what
 `make` passed over, and how many damaged files were removed.
 ";

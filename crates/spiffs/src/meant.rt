@@ -57,9 +57,20 @@ pub fn fail(rt: &HostRuntime, path: &str, trouble: &Trouble, status: u8) -> Stop
     Stop::Status(status)
 }
 
+// Says that what stands in the place of the image is a folder, and answers the status.
+fn refuse_folder(rt: &HostRuntime, image: &str) -> Stop {
+    let status = tell(rt, "! usage\n", USAGE);
+    // (if standard error fails too there is nobody to tell)
+    let _said = eprintln!(rt;
+        "spiffs: {image}: is a folder, and no image; the forms are pack FOLDER IMAGE and unpack IMAGE FOLDER"
+    );
+    Stop::Status(status)
+}
+
 // How many bytes the image has. One that is to be made may be missing.
 fn length_of(rt: &HostRuntime, image: &str, word: Word) -> Result<u64, Stop> {
     match fs::metadata(rt, image) {
+        Ok(told) if told.is_dir() => Err(refuse_folder(rt, image)),
         Ok(told) => Ok(told.len()),
         Err(_) if matches!(word, Word::Pack | Word::Gen) => Ok(0),
         Err(why) => Err(fail(rt, image, &Trouble::Open(why), BOARD_FAULT)),

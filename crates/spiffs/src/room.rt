@@ -3,8 +3,8 @@ use crate::give::{Guard, Told, chip_copy, end_by, end_told, give_on, row_of};
 use crate::look::geometry_of;
 use crate::meant::{Meant, text_of};
 use crate::stop::Stop;
-use crate::trees::{explain_name, explain_passed};
-use crate::{USAGE, explain, take_memory, tell};
+use crate::trees::{explain_name, explain_passed, explain_tree};
+use crate::{USAGE, take_memory, tell};
 use call_script::parse_number;
 use file_room::largest_file;
 use folder_core::Folder;
@@ -147,7 +147,7 @@ fn tell_need<'r>(
         }
         Err(Failed) => {
             let status = end_by(rt, Ending::FolderFault);
-            explain(rt, folder.trouble());
+            explain_tree(rt, tree, folder.trouble());
             Ok(status)
         }
     }

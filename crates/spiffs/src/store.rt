@@ -13,9 +13,13 @@ use front_edge::HostChip;
 use front_words::{SCRATCH, can_be_put, make_working, place};
 use host_edge::{Access, StdFolder, Trouble};
 use std::alloc::{AllocError, Global};
+use std::io::Read;
 use std::{fs, io, str};
 use table_model::FsErr;
 use tree_paths::decoded;
+
+/// Bytes of a host file that are read at a time.
+const READ: usize = 4096;
 
 // Says why a name or a call is refused, and answers the status.
 fn refuse(rt: &HostRuntime, what: &str, why: FsErr) -> Stop {
@@ -175,7 +179,24 @@ fn no_file(rt: &HostRuntime, path: &str, why: io::Error) -> Stop {
     fail(rt, path, &Trouble::Get(why), status)
 }
 
-// The bytes of a host file that is to be put. One that is longer than the volume is refused before it is read.
+// The bytes of a host file, at most `most` and those of one piece more: a device may have no end.
+fn read_some(rt: &HostRuntime, path: &str, most: usize) -> io::Result<Vec<u8>> {
+    let mut file = fs::open(rt, path)?;
+    let mut bytes = Vec::new(rt.alloc());
+    let mut piece = [0u8; READ];
+    // (each turn but the last one reads a byte or more)
+    for _ in 0..most.saturating_add(1) {
+        let count = file.read(&mut piece)?;
+        bytes.extend_from_slice(piece.get(..count).unwrap_or(&[]))?;
+        if count == 0 || bytes.len() > most {
+            break;
+        }
+    }
+    Ok(bytes)
+}
+
+// The bytes of a host file that is to be put. One that is longer than the volume is refused: a plain file before it is read, and any other once
+// more than the volume has was read.
 fn read_file(rt: &HostRuntime, meant: &Meant<'_>, path: &str) -> Result<Vec<u8>, Stop> {
     let told = match fs::metadata(rt, path) {
         Ok(told) => told,
@@ -184,7 +205,8 @@ fn read_file(rt: &HostRuntime, meant: &Meant<'_>, path: &str) -> Result<Vec<u8>,
     if told.is_file() && told.len() > u64::from(meant.size) {
         return Err(refuse(rt, path, FsErr::Full));
     }
-    match fs::read(rt, path) {
+    match read_some(rt, path, meant.size as usize) {
+        Ok(bytes) if bytes.len() > meant.size as usize => Err(refuse(rt, path, FsErr::Full)),
         Ok(bytes) => Ok(bytes),
         Err(why) => Err(no_file(rt, path, why)),
     }

@@ -60,6 +60,18 @@ pub fn explain_passed(rt: &HostRuntime, tree: &TreeFiles<&HostRuntime>) -> io::R
     Ok(())
 }
 
+/// Says what failed of a tree, and on which path.
+pub fn explain_tree(rt: &HostRuntime, tree: &TreeFiles<&HostRuntime>, trouble: Option<&Trouble>) {
+    if let Some(trouble) = trouble {
+        if let Ok(path) = tree.asked_path() {
+            // (if standard error fails too there is nobody to tell)
+            let _said = eprintln!(rt; "spiffs: {path}: {trouble}");
+            return;
+        }
+    }
+    explain(rt, trouble);
+}
+
 // The bytes of a row of chips in memory.
 fn bytes_of<C: HostChip>(alloc: Global, row: &mut ChipRow<C>) -> Result<Vec<u8>, Stop> {
     let mut bytes = vec![in alloc; 0u8; row.size() as usize]?;
@@ -94,7 +106,7 @@ fn end_pack<'r, C: HostChip>(
     // (if standard error fails too there is nobody to tell)
     let _said = explain_passed(rt, tree);
     match status {
-        FOLDER_FAULT => explain(rt, folder.trouble()),
+        FOLDER_FAULT => explain_tree(rt, tree, folder.trouble()),
         FULL => explain_need(rt, meant, folder),
         BAD_NAME => {
             if let Some(bad) = folder.bad_name() {
@@ -156,7 +168,7 @@ pub fn unpack(rt: &HostRuntime, meant: &mut Meant<'_>) -> Result<u8, Stop> {
     let told = give_on(rt, meant, row, b"", &mut folder, &mut memory, Guard::Open)?;
     let status = end_told(rt, meant, &told);
     if status == FOLDER_FAULT {
-        explain(rt, folder.trouble());
+        explain_tree(rt, &tree, folder.trouble());
     }
     Ok(status)
 }

@@ -2,7 +2,8 @@
 use Rattle.std.specs.Prelude.{ℕ, ℤ, List}
 use Rattle.table_model.specs.declared.call.Whence.{Whence}
 use Rattle.table_model.specs.declared.call.Call.{Call}
-use Rattle.table_model.specs.declared.call.Call.TheVariants.{Create, OpenFile, Read, Write, Fill, Seek, Tell, Truncate, Flush, Close, Remove, FRemove, Rename, StatName, FStat, Next, GetInfo, Gc, SetMeta, FSetMeta}
+use Rattle.table_model.specs.declared.call.Call.TheVariants.{Create, OpenFile, Read, Write, Fill, Seek, Tell, Truncate, Flush, Close, Remove, FRemove, Rename}
+use Rattle.table_model.specs.declared.call.Call.TheVariants.{StatName, FStat, Next, GetInfo, Gc, SetMeta, FSetMeta}
 
 -- what a call asks
 pub data Ask : Type 0 where

@@ -1,5 +1,6 @@
 -- Descriptors, numbered from 1, and the flags of an opening, with SPIFFS's own numbers.
-use Rattle.std.specs.Prelude.{ℕ, ◌+◌, ◌-◌, min, List, [], ◌∷◌, slice_set, slice_index_or, Option, Some, None, Bool, not, nat_lt, ◌==◌, ◌&&◌, ◌||◌, if◌then◌else◌, bit_and}
+use Rattle.std.specs.Prelude.{ℕ, ◌+◌, ◌-◌, min, List, [], ◌∷◌, slice_set, slice_index_or, Option, Some, None, Bool, not, nat_lt, ◌==◌, ◌&&◌, ◌||◌}
+use Rattle.std.specs.Prelude.{if◌then◌else◌, bit_and}
 use Rattle.table_model.specs.Table.{Open}
 
 -- each write goes to the file's end

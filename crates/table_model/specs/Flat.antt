@@ -2,7 +2,8 @@
 use Rattle.std.specs.Prelude.{Bool, replicate}
 use Rattle.geometry.specs.declared.geometry.Geometry.{Geometry}
 use Rattle.table_model.specs.Table.{State}
-use Rattle.table_model.specs.Ask.{Ask, Creates, Opens, Reads, Writes, Fills, Seeks, Tells, Truncates, Flushes, Closes, Removes, RemovesOpen, Renames, Stats, StatsOpen, NextAbove, Informs, Collects, SetsMeta, SetsMetaOpen}
+use Rattle.table_model.specs.Ask.{Ask, Creates, Opens, Reads, Writes, Fills, Seeks, Tells, Truncates, Flushes, Closes, Removes, RemovesOpen, Renames, Stats}
+use Rattle.table_model.specs.Ask.{StatsOpen, NextAbove, Informs, Collects, SetsMeta, SetsMetaOpen}
 use Rattle.table_model.specs.Reply.{Fine, Counts}
 pub use Rattle.table_model.specs.Outcome.{Outcome, refused}
 pub use Rattle.table_model.specs.Names.{is_bad_name}
@@ -10,7 +11,8 @@ pub use Rattle.table_model.specs.Files.{new_file, created}
 pub use Rattle.table_model.specs.Calls.{answer_create}
 use Rattle.table_model.specs.Outcome.{gives}
 use Rattle.table_model.specs.Opening.{answer_open}
-use Rattle.table_model.specs.Calls.{answer_read, answer_write, answer_seek, answer_tell, answer_truncate, answer_flush, answer_close, answer_remove, answer_fremove, answer_rename, answer_stat, answer_fstat, answer_next, info_of, answer_meta, answer_fmeta}
+use Rattle.table_model.specs.Calls.{answer_read, answer_write, answer_seek, answer_tell, answer_truncate, answer_flush, answer_close, answer_remove}
+use Rattle.table_model.specs.Calls.{answer_fremove, answer_rename, answer_stat, answer_fstat, answer_next, info_of, answer_meta, answer_fmeta}
 
 -- The answer of each call; `spare` says whether at least two blocks are free.
 -- A collection changes no state; where it stops without its reserve depends on more than the state, and isn't said here.

@@ -1,7 +1,8 @@
 -- The numbers of refusals.
 use Rattle.std.specs.Prelude.{ℤ, negsuc}
 use Rattle.table_model.specs.declared.error.FsErr.{FsErr}
-use Rattle.table_model.specs.declared.error.FsErr.TheVariants.{Failed, BadName, NameTooLong, BadFlags, BadDescriptor, OutOfDescriptors, NotFound, FileExists, ConflictingName, NotReadable, NotWritable, SeekBounds, Tight, Full, DeviceFault, Damaged}
+use Rattle.table_model.specs.declared.error.FsErr.TheVariants.{Failed, BadName, NameTooLong, BadFlags, BadDescriptor, OutOfDescriptors, NotFound, FileExists}
+use Rattle.table_model.specs.declared.error.FsErr.TheVariants.{ConflictingName, NotReadable, NotWritable, SeekBounds, Tight, Full, DeviceFault, Damaged}
 
 -- the number of a refusal: `negsuc n` is -(n + 1)
 abbrev pub number_of : FsErr → ℤ

@@ -54,12 +54,12 @@ check_in_make BoardFault may = may
 check_in_make (Differ differ) may = may
 check_in_make _ may = absurd may
 
-pub check_in_map : (ending : Ending) → MayEndCheck ending → MayEndMap ending
-check_in_map (NotAFs spoiled) may = may
-check_in_map (Mixed blocks) may = may
-check_in_map BoardFault may = may
-check_in_map (Differ differ) may = may
-check_in_map _ may = absurd may
+pub check_in_map : (id : ℕ) (ending : Ending) → MayEndCheck ending → MayEndMap id ending
+check_in_map id (NotAFs spoiled) may = may
+check_in_map id (Mixed blocks) may = may
+check_in_map id BoardFault may = may
+check_in_map id (Differ differ) may = may
+check_in_map id _ may = absurd may
 
 -- ---- a list or a report that was said
 
@@ -92,23 +92,23 @@ unsettled_among DeviceFault apart = tt {0}
 unsettled_among (TheDamaged d) apart = apart d refl
 unsettled_among _ apart = tt {0}
 
-unsettled_in_map : (why : FsErr) → ((d : Differs) → why ≡ TheDamaged d → d.wanted ≢ d.found) → MayEndMap (unsettled_as why)
-unsettled_in_map DeviceFault apart = tt {0}
-unsettled_in_map (TheDamaged d) apart = apart d refl
-unsettled_in_map _ apart = tt {0}
+unsettled_in_map : (id : ℕ) (why : FsErr) → ((d : Differs) → why ≡ TheDamaged d → d.wanted ≢ d.found) → MayEndMap id (unsettled_as why)
+unsettled_in_map id DeviceFault apart = tt {0}
+unsettled_in_map id (TheDamaged d) apart = apart d refl
+unsettled_in_map id _ apart = tt {0}
 
-pub unmapped_among : (id : ℕ) (why : MapErr) → ((d : Differs) → Some why ≡ Some (Call (TheDamaged d)) → d.wanted ≢ d.found) → MayEndMap (unmapped_as id why)
-unmapped_among id (Call NotFound) apart = tt {0}
-unmapped_among id (Call why) apart = unsettled_in_map why (λ d is. apart d (ap (λ (w : FsErr). Some (Call w)) is))
+pub unmapped_among : (id : ℕ) (why : MapErr) → ((d : Differs) → Some why ≡ Some (Call (TheDamaged d)) → d.wanted ≢ d.found) → MayEndMap id (unmapped_as id why)
+unmapped_among id (Call NotFound) apart = refl
+unmapped_among id (Call why) apart = unsettled_in_map id why (λ d is. apart d (ap (λ (w : FsErr). Some (Call w)) is))
 unmapped_among id _ apart = tt {0}
 
 -- garbage collection that isn't stuck
-pub collected_among : (result : Result (Unit {0}) FsErr) → ((d : Differs) → told (λ done. Fine) result ≡ Refuses (TheDamaged d) → d.wanted ≢ d.found) → IfErr (collected_as result) MayEndMap
-collected_among (Ok done) apart = tt {0}
-collected_among (Err TooTight) apart = tt {0}
-collected_among (Err DeviceFault) apart = tt {0}
-collected_among (Err (TheDamaged d)) apart = apart d refl
-collected_among (Err _) apart = tt {0}
+pub collected_among : (id : ℕ) (result : Result (Unit {0}) FsErr) → ((d : Differs) → told (λ done. Fine) result ≡ Refuses (TheDamaged d) → d.wanted ≢ d.found) → IfErr (collected_as result) (MayEndMap id)
+collected_among id (Ok done) apart = tt {0}
+collected_among id (Err TooTight) apart = tt {0}
+collected_among id (Err DeviceFault) apart = tt {0}
+collected_among id (Err (TheDamaged d)) apart = apart d refl
+collected_among id (Err _) apart = tt {0}
 
 module _ {N : Type 0} {nor : NorOf N} {old new : Volume N nor} {last : Result (Unit {0}) FsErr} (takes : takes_calls old ≡ true → SettledOr old new last) (closed : takes_calls old ≡ false → (last ≡ Err Failed) × (new ≡ old)) where
   -- of a page that reads otherwise as the written bytes are put onto the chip, two tags are told that differ

@@ -57,7 +57,7 @@ module _ {N : Type 0} {nor : NorOf N} {old new : Volume N nor} {last : Result (U
           tidy = whole.1.tidy;
           reserve = whole.1.holds.reserve stands.reserve;
           table = whole.1.table ∙ ap (λ (t : State). t.table) ready.state_is;
-          trim = (takes ready.takes).settles.trims.now stands.stands.tells ready.moment stands.stands.image (subst (λ (h : Geometry). IsTrim h (nor.bytes old.nor.now)) (sym ready.geometry) ready.trim);
+          trim = ((takes ready.takes).settles.upkeep.now stands.stands.tells ready.moment stands.stands.image).trims (subst (λ (h : Geometry). IsTrim h (nor.bytes old.nor.now)) (sym ready.geometry) ready.trim);
         }),
       ))
       (λ fault. inr fault)

@@ -1,5 +1,5 @@
 -- Which endings each command may have, whatever its board, its script and its folder tell.
-use Rattle.std.specs.Prelude.{◌≢◌}
+use Rattle.std.specs.Prelude.{◌≡◌, ◌≢◌, ℕ}
 use Rattle.tool_parts.specs.declared.ending.Ending.{Ending}
 use Rattle.tool_parts.specs.declared.ending.Ending.TheVariants.{Done, NotAFs, Mixed, Full, BoardFault, FolderFault, Damaged, BadName, Tight, NoSuchId, Differ}
 use Rattle.tool_parts.specs.Among.{MayEndWork}
@@ -49,16 +49,16 @@ MayEndMake (Tight free) = Unit {0}
 MayEndMake (Differ differ) = differ.wanted ≢ differ.found
 MayEndMake _ = ⊥
 
--- a map
-abbrev pub MayEndMap : Ending → Type 0
-MayEndMap Done = Unit {0}
-MayEndMap (NotAFs spoiled) = Unit {0}
-MayEndMap (Mixed blocks) = Unit {0}
-MayEndMap BoardFault = Unit {0}
-MayEndMap (Tight free) = Unit {0}
-MayEndMap (NoSuchId id) = Unit {0}
-MayEndMap (Differ differ) = differ.wanted ≢ differ.found
-MayEndMap _ = ⊥
+-- a map of the file of an id; where none has it, that id is told
+abbrev pub MayEndMap : (id : ℕ) → Ending → Type 0
+MayEndMap id Done = Unit {0}
+MayEndMap id (NotAFs spoiled) = Unit {0}
+MayEndMap id (Mixed blocks) = Unit {0}
+MayEndMap id BoardFault = Unit {0}
+MayEndMap id (Tight free) = Unit {0}
+MayEndMap id (NoSuchId other) = other ≡ id
+MayEndMap id (Differ differ) = differ.wanted ≢ differ.found
+MayEndMap id _ = ⊥
 
 -- each command
 abbrev pub MayEnd : Verb → Ending → Type 0
@@ -69,4 +69,4 @@ MayEnd Extract = MayEndExtract
 MayEnd Make = MayEndMake
 MayEnd (Soak seed turns) = MayEndWork
 MayEnd (Scrub limit) = MayEndWork
-MayEnd (Map id) = MayEndMap
+MayEnd (Map id) = MayEndMap id

@@ -22,7 +22,8 @@ use Rattle.tool_parts.specs.Mounting.{Checks, IsMendable}
 -- are free
 abbrev pub report_text : (erased : Bool) (killed damaged free : ℕ) → List ℕ
 report_text erased killed damaged free =
-    (codes "erased " ++ decimal (if erased then 1 else 0)) ++ (codes " killed " ++ decimal killed) ++ (codes " damaged " ++ decimal damaged) ++ (codes " free " ++ decimal free) ++ (10 ∷ [])
+    (codes "erased " ++ decimal (if erased then 1 else 0)) ++ (codes " killed " ++ decimal killed) ++ (codes " damaged " ++ decimal damaged)
+    ++ (codes " free " ++ decimal free) ++ (10 ∷ [])
 
 -- The line of a check that found one image and left another: 1 where a block lacked its magic, the kills and the damaged files of the
 -- first one, and the free blocks of the last one.
@@ -48,7 +49,8 @@ pub record IsOrdered (g : Geometry) (image : List ℕ) : Type 0 where
 
 -- where the line of its report was said whole, a check left an image in order
 abbrev pub IsOrderedOnceSaid : {D : Type 0} (nor : NorOf D) (g : Geometry) (old new : D) → Type 0
-IsOrderedOnceSaid nor g old new = (tail : List ℕ) → nor.said new ≡ nor.said old ++ (check_text g (nor.bytes old) (nor.bytes new) ++ tail) → IsOrdered g (nor.bytes new)
+IsOrderedOnceSaid nor g old new = (tail : List ℕ) → nor.said new ≡ nor.said old ++ (check_text g (nor.bytes old) (nor.bytes new) ++ tail) →
+    IsOrdered g (nor.bytes new)
 
 -- before its closing line: it said the line of its report
 pub record ChecksTo {D : Type 0} (nor : NorOf D) (g : Geometry) (old new : D) (result : Ending) : Type 0 where
@@ -66,7 +68,8 @@ pub record CheckCut {D : Type 0} (nor : NorOf D) (g : Geometry) (old new : D) (i
   pub table : table_of g image ≡ table_of g (nor.bytes old)
   pub safe : IsSafe g (nor.bytes old) image
   pub least : length (nor.said old) ≤ count
-  pub most : count ≤ length (nor.said old) + length (reported_text g (nor.bytes old) (nor.bytes new) ++ closing_line_of (check_ending g (nor.bytes old) (nor.bytes new)))
+  pub most : count
+      ≤ length (nor.said old) + length (reported_text g (nor.bytes old) (nor.bytes new) ++ closing_line_of (check_ending g (nor.bytes old) (nor.bytes new)))
   pub once_said : length (nor.said old) < count → image ≡ nor.bytes new
 
 -- A check leaves the files of the image that it finds, brings that into order, and says a report and a closing line.

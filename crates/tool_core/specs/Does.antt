@@ -17,7 +17,8 @@ use Rattle.tool_core.specs.Scrubbing.{DoesScrub}
 use Rattle.tool_core.specs.Mapping.{DoesMap}
 
 -- what a command leaves of a device, a script and a folder, and answers
-abbrev pub Does : {D X F : Type 0} (nor : NorOf D) (source : SourceOf X) (folder : FolderOf F) (lent : Lengths) → Verb → Geometry → (old new : D) (script after : X) (before left : F) (status : ℕ) → Type 0
+abbrev pub Does : {D X F : Type 0} (nor : NorOf D) (source : SourceOf X) (folder : FolderOf F) (lent : Lengths) → Verb → Geometry →
+    (old new : D) (script after : X) (before left : F) (status : ℕ) → Type 0
 Does nor source folder lent Run g old new script after before left status = DoesRun nor source g lent old new script after status
 Does nor source folder lent List g old new script after before left status = DoesList nor g lent.cache old new status
 Does nor source folder lent Check g old new script after before left status = DoesCheck nor g lent.cache old new status

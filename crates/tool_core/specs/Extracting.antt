@@ -53,7 +53,8 @@ pub record EndsBroken {D X : Type 0} (nor : NorOf D) (folder : FolderOf X) (g : 
 
 -- An extraction writes nothing to the board, says the list of the image and a closing line, and puts the files of its table into the
 -- folder, the first ones of them alone where the board or the folder failed.
-pub record DoesExtract {D X : Type 0} (nor : NorOf D) (folder : FolderOf X) (g : Geometry) (cache : ℕ) (old new : D) (before after : X) (status : ℕ) : Type 0 where
+pub record DoesExtract {D X : Type 0} (nor : NorOf D) (folder : FolderOf X) (g : Geometry) (cache : ℕ) (old new : D) (before after : X)
+    (status : ℕ) : Type 0 where
   -- the bytes stay, in a cut too
   pub stays : WritesNone nor old new
   -- the folder tells its bytes as before, and no fault of it is forgotten

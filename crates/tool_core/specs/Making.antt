@@ -61,11 +61,13 @@ pub record DoesMake {D X : Type 0} (nor : NorOf D) (folder : FolderOf X) (g : Ge
   pub kept : Kept folder before after
   -- where the folder's names and sizes refuse it, by the first bad name, or else for want of room, the closing line of that is said, and
   -- nothing else happens; or the folder failed before that was known
-  pub refused : (why : Refusal) → make_refusal g (folder.entries before) ≡ Some why → OnlyCloses nor old new (refused_by why) status ⊎ EndsUnlisted nor folder old new before after status
+  pub refused : (why : Refusal) → make_refusal g (folder.entries before) ≡ Some why →
+      OnlyCloses nor old new (refused_by why) status ⊎ EndsUnlisted nor folder old new before after status
   -- else neither status of that comes
   pub accepted : make_refusal g (folder.entries before) ≡ None → (status ≢ 6) × (status ≢ 13)
   -- and the line of the folder is said, and the status is 0; or a front of it, and 7, where a fault of the board rose; or the folder failed
-  pub told : nor.tells old → make_refusal g (folder.entries before) ≡ None → Concludes nor old new (make_text g (folder.entries before)) Done status ⊎ EndsUnread nor folder old new before after status
+  pub told : nor.tells old → make_refusal g (folder.entries before) ≡ None →
+      Concludes nor old new (make_text g (folder.entries before)) Done status ⊎ EndsUnread nor folder old new before after status
   -- with status 0 the image has the folder's files, and came of a formatted one
   pub files : nor.tells old → status ≡ 0 → HoldsFolder folder g (nor.bytes new) before
   pub formats : nor.tells old → status ≡ 0 → WasFormatted nor g old new

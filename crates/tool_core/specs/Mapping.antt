@@ -1,5 +1,6 @@
 -- What a map leaves and says.
-use Rattle.std.specs.Prelude.{ℕ, zero, suc, ◌≡◌, ◌≢◌, ◌<◌, ◌≤◌, ◌⊎◌, List, ◌∷◌, [], ◌++◌, length, min, Bool, true, false, if◌then◌else◌, nat_lt, codes, decimal, Option, Some, None, unwrap_or, Result, Ok, Err, IfOk, OnOk, OnErr, MatchResult}
+use Rattle.std.specs.Prelude.{ℕ, zero, suc, ◌≡◌, ◌≢◌, ◌<◌, ◌≤◌, ◌⊎◌, List, ◌∷◌, [], ◌++◌, length, min, Bool, true, false, if◌then◌else◌, nat_lt, codes, decimal}
+use Rattle.std.specs.Prelude.{Option, Some, None, unwrap_or, Result, Ok, Err, IfOk, OnOk, OnErr, MatchResult}
 use Rattle.geometry.specs.declared.geometry.Geometry.{Geometry}
 use Rattle.nor_core.specs.declared.device.Failed.{Failed}
 use Rattle.nor_core.specs.declared.state.NorState.{Ghosts as NorOf}
@@ -99,7 +100,8 @@ module _ {N : Type 0} {nor : NorOf N} where
 
   -- A step on such a volume: a cut keeps the files, and it is done, or there is a reason.
   pub record Steps (slots : ℕ) (old new : Volume N nor) (result : Result (Unit {0}) Ending) (Is : Type 0) (Why : Ending → Type 0) : Type 0 where
-    pub changes : Changes nor old.nor.now new.nor.now (λ was image. memory old ≡ closed_memory slots → IsTidy old.geometry was → LeavesFiles old.geometry was image)
+    pub changes : Changes nor old.nor.now new.nor.now
+        (λ was image. memory old ≡ closed_memory slots → IsTidy old.geometry was → LeavesFiles old.geometry was image)
     pub done : IsAtRest slots old → MatchResult result (λ ok. Rests slots old new × Is) Why
 
   -- the table of its image has an id
@@ -137,7 +139,8 @@ module _ {N : Type 0} {nor : NorOf N} where
 
   -- Garbage is collected, and the map is of the same file, or a fault was counted; or the board failed.
   abbrev pub CollectsTo : (slots : ℕ) (old new : Volume N nor) → Result (Unit {0}) Ending → Type 0
-  CollectsTo slots old new result = Steps slots old new result (StopsCollecting old.geometry (nor.bytes old.nor.now) (nor.bytes new.nor.now) × KeepsMap old new false) (λ ending. ending ≡ BoardFault)
+  CollectsTo slots old new result = Steps slots old new result
+      (StopsCollecting old.geometry (nor.bytes old.nor.now) (nor.bytes new.nor.now) × KeepsMap old new false) (λ ending. ending ≡ BoardFault)
 
   -- There is the map, attached again if it was lost; or the board failed.
   abbrev pub MapsAgain : (slots id : ℕ) (old new : Volume N nor) → Result (Unit {0}) Ending → Type 0
@@ -187,7 +190,8 @@ pub record MapEnds {D : Type 0} (nor : NorOf D) (g : Geometry) (id : ℕ) (old n
   pub changes : Changes nor old mid (LeavesFiles g)
   pub says : OnlySays nor mid new (span_lines g (nor.bytes mid) id (spans_told g (file_of id (table_of g (nor.bytes old)))))
   pub speaks : nor.tells old →
-      Speaks nor mid new (span_lines g (nor.bytes mid) id (spans_told g (file_of id (table_of g (nor.bytes old))))) (file_ending id (file_of id (table_of g (nor.bytes old)))) result
+      Speaks nor mid new (span_lines g (nor.bytes mid) id (spans_told g (file_of id (table_of g (nor.bytes old)))))
+      (file_ending id (file_of id (table_of g (nor.bytes old)))) result
   pub done : nor.tells old → result ≡ Done → StopsCollecting g (nor.bytes old) (nor.bytes mid)
   pub missing : nor.tells old → status_of result ≡ 17 → nor.bytes mid ≡ nor.bytes old
   pub holds : nor.tells old → (result ≡ BoardFault) ⊎ Holds g (nor.bytes old) (nor.bytes mid)

@@ -1,5 +1,6 @@
 -- What a scrub leaves and says.
-use Rattle.std.specs.Prelude.{ℕ, zero, suc, ◌≡◌, ◌≢◌, ◌+◌, ◌<◌, ◌≤◌, ◌⊎◌, List, ◌∷◌, [], ◌++◌, length, Bool, true, false, codes, decimal, Some, None, unwrap_or, Result, OnOk, MatchResult}
+use Rattle.std.specs.Prelude.{ℕ, zero, suc, ◌≡◌, ◌≢◌, ◌+◌, ◌<◌, ◌≤◌, ◌⊎◌, List, ◌∷◌, [], ◌++◌, length, Bool, true, false, codes, decimal, Some, None, unwrap_or}
+use Rattle.std.specs.Prelude.{Result, OnOk, MatchResult}
 use Rattle.geometry.specs.declared.geometry.Geometry.{Geometry}
 use Rattle.nor_core.specs.declared.state.NorState.{Ghosts as NorOf}
 use Rattle.nor_core.specs.Device.{Leaves, Changes, InSay, Says}
@@ -88,10 +89,12 @@ KeepsFiles g was image = IsTidy g was → HasReserve g was → IsSafe g was imag
 
 -- Steps on a volume whose descriptors are closed: a cut keeps the files, and it is done, or the board failed. `now` is what the volume remembers
 -- then.
-pub record Makes {D T : Type 0} (nor : NorOf D) (g : Geometry) (slots : ℕ) (old new : D) (now : Memory) (result : Result T Ending) (Is : List ℕ → List ℕ → T → Type 0) : Type 0 where
+pub record Makes {D T : Type 0} (nor : NorOf D) (g : Geometry) (slots : ℕ) (old new : D) (now : Memory) (result : Result T Ending)
+    (Is : List ℕ → List ℕ → T → Type 0) : Type 0 where
   pub memory : OnOk result (now ≡ closed_memory slots)
   pub changes : Changes nor old new (KeepsFiles g)
-  pub done : nor.tells old → IsTidy g (nor.bytes old) → HasReserve g (nor.bytes old) → MatchResult result (Is (nor.bytes old) (nor.bytes new)) (λ ending. ending ≡ BoardFault)
+  pub done : nor.tells old → IsTidy g (nor.bytes old) → HasReserve g (nor.bytes old) →
+      MatchResult result (Is (nor.bytes old) (nor.bytes new)) (λ ending. ending ≡ BoardFault)
 
 -- ---- with the check before them, and what is said
 
@@ -110,7 +113,8 @@ pub record SaysScrub {D : Type 0} (nor : NorOf D) (g : Geometry) (limit : ℕ) (
   pub free : ℕ
   pub mid : D
   pub changes : Changes nor old mid (KeepsFiles g)
-  pub made : nor.tells old → IsTidy g (nor.bytes old) → HasReserve g (nor.bytes old) → Scrubbed g limit (nor.bytes old) (nor.bytes mid) moved × (free ≡ free_blocks g (nor.bytes mid))
+  pub made : nor.tells old → IsTidy g (nor.bytes old) → HasReserve g (nor.bytes old) →
+      Scrubbed g limit (nor.bytes old) (nor.bytes mid) moved × (free ≡ free_blocks g (nor.bytes mid))
   pub says : Says nor mid new (scrub_text moved free)
   pub cuts : Leaves nor mid new (InSay nor mid (scrub_text moved free))
   pub ends : (result ≡ BoardFault) ⊎ ((result ≡ Done) × (nor.tells mid → nor.said new ≡ nor.said mid ++ scrub_text moved free))
@@ -160,7 +164,8 @@ pub record DoesScrub {D : Type 0} (nor : NorOf D) (g : Geometry) (cache limit : 
   pub kept : nor.tells old → (ending : Ending) → check_refusal g (nor.bytes old) ≡ Some ending → WritesNone nor old new
   -- what a cut at any moment leaves
   pub cuts : Leaves nor old new (λ image count. nor.tells old →
-      ScrubCut nor g old new (moved_text g (nor.bytes old) (nor.bytes new) moved ++ closing_line_of (scrub_ending g (nor.bytes old) (nor.bytes new))) image count)
+      ScrubCut nor g old new
+      (moved_text g (nor.bytes old) (nor.bytes new) moved ++ closing_line_of (scrub_ending g (nor.bytes old) (nor.bytes new))) image count)
   -- the bytes behind the volume stay
   pub behind : StaysBehind nor g old new
   -- each page is read once at most

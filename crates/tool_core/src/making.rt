@@ -82,7 +82,8 @@ fn make_volume<B: Board, F: Folder>(
     ensures folder_cause { result ≡ Ending.FolderFault → Rose (F.faults folder.old) (F.faults folder.new) }
     ensures same { IsSameVolume volume.old volume.new }
     ensures kept { Kept F.FolderState folder.old folder.new }
-    ensures makes { (slots : ℕ) → 0 < slots → memory volume.old ≡ closed_memory (min 65535 slots) → B.tells volume.old.nor.now → HoldsFiles volume.old.geometry (B.bytes volume.old.nor.now) [] → MakesTo B.NorState F.FolderState volume.old.geometry volume.old.nor.now volume.new.nor.now folder.old result }
+    ensures makes { (slots : ℕ) → 0 < slots → memory volume.old ≡ closed_memory (min 65535 slots) → B.tells volume.old.nor.now → HoldsFiles volume.old.geometry
+        (B.bytes volume.old.nor.now) [] → MakesTo B.NorState F.FolderState volume.old.geometry volume.old.nor.now volume.new.nor.now folder.old result }
 {
     if let Err(ending) = mount_and_check(volume, marks) {
         return ending;

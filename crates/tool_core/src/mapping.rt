@@ -14,7 +14,8 @@ ghost use Rattle.tool_parts.specs.Lent.{lengths_of};
 ghost use Rattle.tool_parts.specs.Begins.{closed_memory};
 ghost use Rattle.tool_parts.specs.Reads.{ReadsOnce};
 ghost use Rattle.tool_core.specs.Among.{MayEndMap};
-ghost use Rattle.tool_core.specs.Mapping.{page_line, unmapped_as, collected_as, AttachesTo, CollectsTo, MapsAgain, TellsPages, SaysSpan, SaysSpans, MapEnds, MapsTo, DoesMap};
+ghost use Rattle.tool_core.specs.Mapping.{page_line, unmapped_as, collected_as, AttachesTo, CollectsTo, MapsAgain, TellsPages, SaysSpan, SaysSpans, MapEnds};
+ghost use Rattle.tool_core.specs.Mapping.{MapsTo, DoesMap};
 
 use crate::finishing::unsettled;
 use geometry::Geometry;
@@ -65,7 +66,7 @@ fn attach<'b, B: Board>(
     requires free { is_attached volume.old ≡ false }
     ensures later { IfErr result IsLater }
     ensures no_script { ¬ (result ≡ Err Ending.SourceFault) }
-    ensures among { IfErr result MayEndMap }
+    ensures among { IfErr result (MayEndMap id) }
     ensures cause { result ≡ Err Ending.BoardFault → Rose (B.faults volume.old.nor.now) (B.faults volume.new.nor.now) }
     ensures same { IsSameVolume volume.old volume.new }
     ensures taken { OnOk result (takes_calls volume.new ≡ true) }
@@ -95,7 +96,7 @@ fn collect<B: Board>(volume: &mut Volume<'_, B>) -> Result<(), Ending>
     requires takes { takes_calls volume.old ≡ true }
     ensures later { IfErr result IsLater }
     ensures no_script { ¬ (result ≡ Err Ending.SourceFault) }
-    ensures among { IfErr result MayEndMap }
+    ensures among { (id : ℕ) → IfErr result (MayEndMap id) }
     ensures cause { result ≡ Err Ending.BoardFault → Rose (B.faults volume.old.nor.now) (B.faults volume.new.nor.now) }
     ensures same { IsSameVolume volume.old volume.new }
     ensures taken { OnOk result (takes_calls volume.new ≡ true) }
@@ -110,7 +111,7 @@ fn remap<B: Board>(volume: &mut Volume<'_, B>, id: u16) -> Result<(), Ending>
     requires takes { takes_calls volume.old ≡ true }
     ensures later { IfErr result IsLater }
     ensures no_script { ¬ (result ≡ Err Ending.SourceFault) }
-    ensures among { IfErr result MayEndMap }
+    ensures among { IfErr result (MayEndMap id) }
     ensures cause { result ≡ Err Ending.BoardFault → Rose (B.faults volume.old.nor.now) (B.faults volume.new.nor.now) }
     ensures same { IsSameVolume volume.old volume.new }
     ensures maps { (slots : ℕ) → MapsAgain slots id volume.old volume.new result }
@@ -129,7 +130,8 @@ fn say_span<B: Board>(volume: &mut Volume<'_, B>, span: u32) -> Result<bool, Fai
     requires { span < 4096 }
     ensures cause { OnErr result (Rose (B.faults volume.old.nor.now) (B.faults volume.new.nor.now)) }
     ensures same { IsSameVolume volume.old volume.new }
-    ensures says { (id count : ℕ) → (B.tells volume.old.nor.now → TellsPages id count volume.old × (span ≤ count)) → SaysSpan id count span volume.old volume.new result }
+    ensures says { (id count : ℕ) → (B.tells volume.old.nor.now → TellsPages id count volume.old × (span ≤ count)) →
+        SaysSpan id count span volume.old volume.new result }
 {
     let page = match volume.map_page(span) {
         Some(page) => page,
@@ -149,7 +151,8 @@ fn say_span<B: Board>(volume: &mut Volume<'_, B>, span: u32) -> Result<bool, Fai
 fn say_spans<B: Board>(volume: &mut Volume<'_, B>) -> Result<(), Failed>
     ensures cause { OnErr result (Rose (B.faults volume.old.nor.now) (B.faults volume.new.nor.now)) }
     ensures same { IsSameVolume volume.old volume.new }
-    ensures says { (id count : ℕ) → (B.tells volume.old.nor.now → TellsPages id count volume.old) → SaysSpans B.NorState volume.old.geometry id count volume.old.nor.now volume.new.nor.now result }
+    ensures says { (id count : ℕ) → (B.tells volume.old.nor.now → TellsPages id count volume.old) →
+        SaysSpans B.NorState volume.old.geometry id count volume.old.nor.now volume.new.nor.now result }
 {
     let mut span = 0;
     'spans: while span < SPANS {
@@ -171,10 +174,11 @@ fn map_checked<'b, B: Board>(volume: &mut Volume<'b, B>, id: u16, numbers: &'b m
     requires tidy { B.tells volume.old.nor.now → IsTidy volume.old.geometry (B.bytes volume.old.nor.now) }
     ensures later { IsLater result }
     ensures no_script { result ≢ Ending.SourceFault }
-    ensures among { MayEndMap result }
+    ensures among { MayEndMap id result }
     ensures cause { result ≡ Ending.BoardFault → Rose (B.faults volume.old.nor.now) (B.faults volume.new.nor.now) }
     ensures same { IsSameVolume volume.old volume.new }
-    ensures maps { (slots : ℕ) → memory volume.old ≡ closed_memory slots → MapEnds B.NorState volume.old.geometry id volume.old.nor.now volume.new.nor.now result }
+    ensures maps { (slots : ℕ) → memory volume.old ≡ closed_memory slots →
+        MapEnds B.NorState volume.old.geometry id volume.old.nor.now volume.new.nor.now result }
 {
     if let Err(ending) = attach(volume, id, numbers) {
         return ending;
@@ -205,10 +209,11 @@ fn map_volume<'b, B: Board>(
     requires room { length numbers.old ≡ 8192 }
     ensures later { IsLater result }
     ensures no_script { result ≢ Ending.SourceFault }
-    ensures among { MayEndMap result }
+    ensures among { MayEndMap id result }
     ensures cause { result ≡ Ending.BoardFault → Rose (B.faults volume.old.nor.now) (B.faults volume.new.nor.now) }
     ensures same { IsSameVolume volume.old volume.new }
-    ensures maps { (slots : ℕ) → memory volume.old ≡ closed_memory slots → MapsTo B.NorState volume.old.geometry id volume.old.nor.now volume.new.nor.now result }
+    ensures maps { (slots : ℕ) → memory volume.old ≡ closed_memory slots →
+        MapsTo B.NorState volume.old.geometry id volume.old.nor.now volume.new.nor.now result }
 {
     match mount_and_check(volume, marks) {
         Ok(_) => map_checked(volume, id, numbers),
@@ -233,7 +238,7 @@ fn map_board<'b, B: Board>(
     requires room { length numbers.old ≡ 8192 }
     ensures later { IsLater result }
     ensures no_script { result ≢ Ending.SourceFault }
-    ensures among { MayEndMap result }
+    ensures among { MayEndMap id result }
     ensures cause { result ≡ Ending.BoardFault → Rose (B.faults board.old) (B.faults board.new) }
     ensures maps { MapsTo B.NorState g id board.old board.new result }
     ensures behind { StaysBehind B.NorState g board.old board.new }
@@ -252,7 +257,7 @@ pub(crate) fn map_on<B: Board>(g: Geometry, id: u16, board: &mut B, bufs: &mut B
     ensures board_fault { result ≡ 7 → Rose (B.faults board.old) (B.faults board.new) }
     ensures no_script { result ≢ 8 }
     ensures no_folder { result ≢ 9 }
-    ensures ends { EndsAmong B.NorState MayEndMap board.old board.new result }
+    ensures ends { EndsAmong B.NorState (MayEndMap id) board.old board.new result }
     ensures does { DoesMap B.NorState g (length bufs.old.cache.now) id board.old board.new result }
 {
     let lent = Lent {

@@ -55,7 +55,8 @@ fn scrub_turn<B: Board>(volume: &mut Volume<'_, B>, limit: u16) -> Result<bool, 
     ensures cause { result ≡ Err Ending.BoardFault → Rose (B.faults volume.old.nor.now) (B.faults volume.new.nor.now) }
     ensures taken { OnOk result (takes_calls volume.new ≡ true) }
     ensures same { IsSameVolume volume.old volume.new }
-    ensures makes { (slots : ℕ) → memory volume.old ≡ closed_memory slots → Makes B.NorState volume.old.geometry slots volume.old.nor.now volume.new.nor.now (memory volume.new) result (IsStepDone volume.old.geometry limit) }
+    ensures makes { (slots : ℕ) → memory volume.old ≡ closed_memory slots →
+        Makes B.NorState volume.old.geometry slots volume.old.nor.now volume.new.nor.now (memory volume.new) result (IsStepDone volume.old.geometry limit) }
 {
     match volume.scrub(limit) {
         Ok(scrub) => Ok(has_moved(scrub)),
@@ -74,7 +75,8 @@ fn scrub_all<B: Board>(volume: &mut Volume<'_, B>, limit: u16) -> Result<u32, En
     ensures cause { result ≡ Err Ending.BoardFault → Rose (B.faults volume.old.nor.now) (B.faults volume.new.nor.now) }
     ensures taken { OnOk result (takes_calls volume.new ≡ true) }
     ensures same { IsSameVolume volume.old volume.new }
-    ensures makes { (slots : ℕ) → memory volume.old ≡ closed_memory slots → Makes B.NorState volume.old.geometry slots volume.old.nor.now volume.new.nor.now (memory volume.new) result (Scrubbed volume.old.geometry limit) }
+    ensures makes { (slots : ℕ) → memory volume.old ≡ closed_memory slots →
+        Makes B.NorState volume.old.geometry slots volume.old.nor.now volume.new.nor.now (memory volume.new) result (Scrubbed volume.old.geometry limit) }
 {
     let blocks = volume.geometry.blocks();
     let mut moved = 0;
@@ -98,7 +100,8 @@ fn scrub_and_count<B: Board>(volume: &mut Volume<'_, B>, limit: u16) -> Result<T
     ensures among { IfErr result MayEndWork }
     ensures cause { result ≡ Err Ending.BoardFault → Rose (B.faults volume.old.nor.now) (B.faults volume.new.nor.now) }
     ensures same { IsSameVolume volume.old volume.new }
-    ensures makes { (slots : ℕ) → memory volume.old ≡ closed_memory slots → Makes B.NorState volume.old.geometry slots volume.old.nor.now volume.new.nor.now (memory volume.new) result (IsTally volume.old.geometry limit) }
+    ensures makes { (slots : ℕ) → memory volume.old ≡ closed_memory slots →
+        Makes B.NorState volume.old.geometry slots volume.old.nor.now volume.new.nor.now (memory volume.new) result (IsTally volume.old.geometry limit) }
 {
     let moved = match scrub_all(volume, limit) {
         Ok(moved) => moved,
@@ -123,7 +126,8 @@ fn scrub_checked<B: Board>(volume: &mut Volume<'_, B>, limit: u16) -> Ending
     ensures among { MayEndWork result }
     ensures cause { result ≡ Ending.BoardFault → Rose (B.faults volume.old.nor.now) (B.faults volume.new.nor.now) }
     ensures same { IsSameVolume volume.old volume.new }
-    ensures scrubs { (slots : ℕ) → memory volume.old ≡ closed_memory slots → ScrubEnds B.NorState volume.old.geometry limit volume.old.nor.now volume.new.nor.now result }
+    ensures scrubs { (slots : ℕ) → memory volume.old ≡ closed_memory slots →
+        ScrubEnds B.NorState volume.old.geometry limit volume.old.nor.now volume.new.nor.now result }
 {
     let tally = match scrub_and_count(volume, limit) {
         Ok(tally) => tally,
@@ -146,7 +150,8 @@ fn scrub_volume<B: Board>(volume: &mut Volume<'_, B>, limit: u16, marks: &mut [u
     ensures among { MayEndWork result }
     ensures cause { result ≡ Ending.BoardFault → Rose (B.faults volume.old.nor.now) (B.faults volume.new.nor.now) }
     ensures same { IsSameVolume volume.old volume.new }
-    ensures scrubs { (slots : ℕ) → memory volume.old ≡ closed_memory slots → ScrubsTo B.NorState volume.old.geometry limit volume.old.nor.now volume.new.nor.now result }
+    ensures scrubs { (slots : ℕ) → memory volume.old ≡ closed_memory slots →
+        ScrubsTo B.NorState volume.old.geometry limit volume.old.nor.now volume.new.nor.now result }
 {
     match begin(volume, marks) {
         Ok(()) => scrub_checked(volume, limit),

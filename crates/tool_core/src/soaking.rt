@@ -54,7 +54,8 @@ fn soak_volume<B: Board>(
     ensures among { MayEndWork result }
     ensures cause { result ≡ Ending.BoardFault → Rose (B.faults volume.old.nor.now) (B.faults volume.new.nor.now) }
     ensures same { IsSameVolume volume.old volume.new }
-    ensures soaks { (slots : ℕ) → memory volume.old ≡ closed_memory (min 65535 slots) → B.tells volume.old.nor.now → HoldsFiles volume.old.geometry (B.bytes volume.old.nor.now) [] → SoaksTo B.NorState volume.old.geometry slots seed turns volume.old.nor.now volume.new.nor.now result }
+    ensures soaks { (slots : ℕ) → memory volume.old ≡ closed_memory (min 65535 slots) → B.tells volume.old.nor.now → HoldsFiles volume.old.geometry
+        (B.bytes volume.old.nor.now) [] → SoaksTo B.NorState volume.old.geometry slots seed turns volume.old.nor.now volume.new.nor.now result }
 {
     if let Err(ending) = mount_and_check(volume, marks) {
         return ending;
@@ -87,7 +88,8 @@ fn soak_board<'b, B: Board>(
     ensures among { MayEndWork result }
     ensures cause { result ≡ Ending.BoardFault → Rose (B.faults board.old) (B.faults board.new) }
     ensures behind { StaysBehind B.NorState g board.old board.new }
-    ensures soaks { B.tells board.old → HoldsFiles g (B.bytes board.old) [] → SoaksTo B.NorState g (length lent.entry.slots.now) seed turns board.old board.new result }
+    ensures soaks { B.tells board.old → HoldsFiles g (B.bytes board.old) [] →
+        SoaksTo B.NorState g (length lent.entry.slots.now) seed turns board.old board.new result }
 {
     let mut volume = Volume::new(g, board, lent);
     soak_volume(&mut volume, seed, turns, line, marks)

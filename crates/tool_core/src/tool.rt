@@ -41,7 +41,8 @@ fn perform<B: Board, S: Source, F: Folder>(
     ensures board_fault { result ≡ 7 → Rose (B.faults board.old) (B.faults board.new) }
     ensures script_fault { result ≡ 8 → Rose (S.faults script.old) (S.faults script.new) }
     ensures folder_fault { result ≡ 9 → Rose (F.faults folder.old) (F.faults folder.new) }
-    ensures does { Does B.NorState S.Source F.FolderState (lengths_of bufs.old) command.verb command.geometry board.old board.new script.old script.new folder.old folder.new result }
+    ensures does { Does B.NorState S.Source F.FolderState
+        (lengths_of bufs.old) command.verb command.geometry board.old board.new script.old script.new folder.old folder.new result }
     ensures ends { EndsAmong B.NorState (MayEnd command.verb) board.old board.new result }
     ensures untaken { has_script command.verb ≡ false → script.new ≡ script.old }
     ensures untouched { has_folder command.verb ≡ false → folder.new ≡ folder.old }
@@ -67,10 +68,11 @@ fn perform<B: Board, S: Source, F: Folder>(
 /// most 1,000,000, LIMIT 1 to 32,767, ID at most 65,535 and the others below 2 ^ 32, MAGIC `plain` or `len`, CHIP and FOLDER any words that aren't
 /// empty, which aren't read here. `run` mounts and checks the volume, and runs each line of the script as a call; `list` mounts
 /// it and says its files and its damaged ids, and writes nothing; `extract` says the same and puts each file into the
-/// folder; `make` formats it and writes each file of the folder into it, in its order; `check` mounts and checks it, and says what the check found and did; `soak` formats it, does COUNT turns of calls that
-/// are drawn from SEED, and says a summary; `scrub` mounts and checks it, makes scrub steps until one moves no block or as many as there
-/// are blocks were made, and says how many moved one and how many blocks are free; `map` mounts and checks it, collects garbage, and
-/// says for each of the first 4,096 data pages of the file with that id which page of the volume it is. It takes no memory but what is lent.
+/// folder; `make` formats it and writes each file of the folder into it, in its order; `check` mounts and checks it, and says what the check found and did;
+/// `soak` formats it, does COUNT turns of calls that are drawn from SEED, and says a summary; `scrub` mounts and checks it,
+/// makes scrub steps until one moves no block or as many as there are blocks were made, and says how many moved one and how many blocks are free;
+/// `map` mounts and checks it, collects garbage, and says for each of the first 4,096 data pages of the file with that id which page of the volume it is.
+/// It takes no memory but what is lent.
 pub fn spiffs_tool<B: Board, S: Source, F: Folder>(
     words: &[String],
     board: &mut B,
@@ -85,14 +87,17 @@ pub fn spiffs_tool<B: Board, S: Source, F: Folder>(
         (command : Command) × IsPlanned (asked_of B.NorState (map string_bytes words.now) board.old bufs.old) command }
     // .. and it is done as that command says.
     ensures does { (command : Command) → IsPlanned (asked_of B.NorState (map string_bytes words.now) board.old bufs.old) command →
-        Does B.NorState S.Source F.FolderState (lengths_of bufs.old) command.verb command.geometry board.old board.new script.old script.new folder.old folder.new result }
+        Does B.NorState S.Source F.FolderState
+        (lengths_of bufs.old) command.verb command.geometry board.old board.new script.old script.new folder.old folder.new result }
     // Whatever the devices tell, it comes to one of the endings of that command, and says the closing line of that last.
     ensures ends { (command : Command) → IsPlanned (asked_of B.NorState (map string_bytes words.now) board.old bufs.old) command →
         EndsAmong B.NorState (MayEnd command.verb) board.old board.new result }
     // Nothing is taken of a script, and no folder is touched, but by a command that has one.
-    ensures untaken { ((command : Command) → IsPlanned (asked_of B.NorState (map string_bytes words.now) board.old bufs.old) command → has_script command.verb ≡ false) →
+    ensures untaken { ((command : Command) → IsPlanned (asked_of B.NorState (map string_bytes words.now) board.old bufs.old) command →
+        has_script command.verb ≡ false) →
         script.new ≡ script.old }
-    ensures untouched { ((command : Command) → IsPlanned (asked_of B.NorState (map string_bytes words.now) board.old bufs.old) command → has_folder command.verb ≡ false) →
+    ensures untouched { ((command : Command) → IsPlanned (asked_of B.NorState (map string_bytes words.now) board.old bufs.old) command →
+        has_folder command.verb ≡ false) →
         folder.new ≡ folder.old }
     // A fault is told only where one was counted.
     ensures board_fault { result ≡ 7 → Rose (B.faults board.old) (B.faults board.new) }

@@ -1,6 +1,7 @@
 ghost use Rattle.std.specs.Prelude.{◌≡◌, ◌+◌, ◌*◌, ◌<◌, ◌≤◌, length, map, string_bytes, option_copied, IfSome, Some, None, true};
 ghost use Rattle.tool_parts.specs.Words.{number_word, word_at};
-ghost use Rattle.tool_core.specs.Words.{form_of, verb_in, soak_in, limit_in, map_in, seed_word, turns_word, limit_word, id_word, word_count, has_folder, has_form, writes, HasLimit};
+ghost use Rattle.tool_core.specs.Words.{form_of, verb_in, soak_in, limit_in, map_in, seed_word, turns_word, limit_word, id_word, word_count, has_folder};
+ghost use Rattle.tool_core.specs.Words.{has_form, writes, HasLimit};
 
 use call_script::parse_number;
 use tool_parts::{Numbers, read_numbers, word};

@@ -5,7 +5,8 @@ use Rattle.table_model.specs.declared.error.Differ.{Differ as Differs}
 use Rattle.vol_mount.specs.declared.lent.Part.{Part}
 use Rattle.vol_mount.specs.declared.lent.Part.TheVariants.{Work, Slots, Cache, Check, Window, Line}
 use Rattle.tool_parts.specs.declared.ending.Ending.{Ending}
-use Rattle.tool_parts.specs.declared.ending.Ending.TheVariants.{Done, Usage, Geometry, ShortBuffer, NotAFs, BadLine, Full, BoardFault, SourceFault, FolderFault, TooLong, Damaged, BadName, Tight, Mixed, NoSuchId, SourceChipFault, Differ}
+use Rattle.tool_parts.specs.declared.ending.Ending.TheVariants.{Done, Usage, Geometry, ShortBuffer, NotAFs, BadLine, Full, BoardFault, SourceFault, FolderFault}
+use Rattle.tool_parts.specs.declared.ending.Ending.TheVariants.{TooLong, Damaged, BadName, Tight, Mixed, NoSuchId, SourceChipFault, Differ}
 
 -- the status that a command answers
 abbrev pub status_of : Ending → ℕ
@@ -43,7 +44,8 @@ short_text part need given = codes "! short buffer " ++ part_word part ++ (codes
 
 -- the number of the page, then the wanted id and span, then the found ones
 abbrev pub differ_text : Differs → List ℕ
-differ_text d = (codes "! differ " ++ decimal d.page) ++ (codes " " ++ decimal d.wanted.id) ++ (codes " " ++ decimal d.wanted.span) ++ (codes " " ++ decimal d.found.id) ++ (codes " " ++ decimal d.found.span)
+differ_text d = (codes "! differ " ++ decimal d.page) ++ (codes " " ++ decimal d.wanted.id) ++ (codes " " ++ decimal d.wanted.span)
+    ++ (codes " " ++ decimal d.found.id) ++ (codes " " ++ decimal d.found.span)
 
 -- how many blocks lack their magic
 abbrev pub spoiled_text : ℕ → List ℕ

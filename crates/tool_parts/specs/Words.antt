@@ -1,5 +1,6 @@
 -- The words of a command that give the numbers of its volumes.
-use Rattle.std.specs.Prelude.{ℕ, List, [], Bool, not, ◌*◌, ◌==◌, ◌||◌, nat_eq, nat_lt, Option, Some, None, if◌then◌else◌, codes, unwrap_or, slice_get, option_and_then}
+use Rattle.std.specs.Prelude.{ℕ, List, [], Bool, not, ◌*◌, ◌==◌, ◌||◌, nat_eq, nat_lt, Option, Some, None, if◌then◌else◌, codes, unwrap_or, slice_get}
+use Rattle.std.specs.Prelude.{option_and_then}
 use Rattle.std.specs.Int.{div_ceil}
 use Rattle.std.specs.Cmp.Lexicographic.{pointwise}
 use Rattle.geometry.specs.declared.magic.MagicKind.{MagicKind}
@@ -31,7 +32,8 @@ abbrev pub numbers_in : List (List ℕ) → Option Numbers
 numbers_in words =
     option_and_then (λ page. option_and_then (λ block. option_and_then (λ blocks. option_and_then (λ meta. option_and_then (λ magic.
     Some (record { page = page; block = block; blocks = blocks; meta = meta; magic = magic }))
-    (magic_word (word_at words 5))) (number_word (word_at words 4))) (number_word (word_at words 3))) (number_word (word_at words 2))) (number_word (word_at words 1))
+    (magic_word (word_at words 5))) (number_word (word_at words 4))) (number_word (word_at words 3))) (number_word (word_at words 2)))
+    (number_word (word_at words 1))
 
 -- the bytes of a block and the number of blocks, by their places, where they give a volume of some bytes, below 2 ^ 32
 abbrev pub blocks_in : List (List ℕ) → Option (ℕ × ℕ)

@@ -65,7 +65,8 @@ pub fn mount_and_check<B: Board>(
     ensures map { GivesUpMap volume.old volume.new }
     ensures changes { Changes B.NorState volume.old.nor.now volume.new.nor.now (Checks volume.old.geometry) }
     ensures reported { B.tells volume.old.nor.now → IfOk result (Reported volume.old.geometry (B.bytes volume.old.nor.now) (B.bytes volume.new.nor.now)) }
-    ensures idle { B.tells volume.old.nor.now → IsTidy volume.old.geometry (B.bytes volume.old.nor.now) → HasReserve volume.old.geometry (B.bytes volume.old.nor.now) → OnlyReads B.NorState volume.old.nor.now volume.new.nor.now }
+    ensures idle { B.tells volume.old.nor.now → IsTidy volume.old.geometry (B.bytes volume.old.nor.now) →
+        HasReserve volume.old.geometry (B.bytes volume.old.nor.now) → OnlyReads B.NorState volume.old.nor.now volume.new.nor.now }
     ensures stops { B.tells volume.old.nor.now → IfErr result (StopsCheck B.NorState volume.old.geometry volume.old.nor.now volume.new.nor.now) }
 {
     if let Err(why) = volume.mount() {

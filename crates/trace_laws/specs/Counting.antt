@@ -23,7 +23,8 @@ unfoldable pub replies_in : Geometry → Moment → List Ask → List ℕ → �
 replies_in g m [] said = 0
 replies_in g m (ask ∷ asks) said =
     if begins_so g m ask true said then replies_in g (after g true m ask) asks (drop (length (line_of g m ask true)) said) + 1
-    else if is_corner g m.state ask && begins_so g m ask false said then replies_in g (after g false m ask) asks (drop (length (line_of g m ask false)) said) + 1
+    else if is_corner g m.state ask && begins_so g m ask false said
+    then replies_in g (after g false m ask) asks (drop (length (line_of g m ask false)) said) + 1
     else 0
 
 -- The replies to all calls of a run are counted, whatever is said behind them.

@@ -37,6 +37,9 @@ IsUnanswered g m ask said = (spare : Bool) → IsFair g m (call_of ask spare) �
 -- reply that of its own steps too; and behind a whole one the calls go on from there.
 pub record WalksOn (g : Geometry) : Type 0 where
   pub at_end : (m : Moment) (said image : List ℕ) → MayStand g m [] said image ↔ ((said ≡ []) × IsAmong (table_of g image) (from_settled m []))
-  pub before : (m : Moment) (ask : Ask) (asks : List Ask) (image : List ℕ) → MayStand g m (ask ∷ asks) [] image ↔ IsAmong (table_of g image) (from_settled m (steps g true m.state ask))
-  pub inside : (m : Moment) (ask : Ask) (asks : List Ask) (part image : List ℕ) → 0 < length part → IsUnanswered g m ask part → MayStand g m (ask ∷ asks) part image ↔ IsInFirst g m ask part image
-  pub behind : (m : Moment) (ask : Ask) (asks : List Ask) (spare : Bool) (more image : List ℕ) → IsFair g m (call_of ask spare) → MayStand g m (ask ∷ asks) (line_of g m ask spare ++ more) image ↔ MayStand g (after g spare m ask) asks more image
+  pub before : (m : Moment) (ask : Ask) (asks : List Ask) (image : List ℕ) →
+      MayStand g m (ask ∷ asks) [] image ↔ IsAmong (table_of g image) (from_settled m (steps g true m.state ask))
+  pub inside : (m : Moment) (ask : Ask) (asks : List Ask) (part image : List ℕ) → 0 < length part → IsUnanswered g m ask part →
+      MayStand g m (ask ∷ asks) part image ↔ IsInFirst g m ask part image
+  pub behind : (m : Moment) (ask : Ask) (asks : List Ask) (spare : Bool) (more image : List ℕ) → IsFair g m (call_of ask spare) →
+      MayStand g m (ask ∷ asks) (line_of g m ask spare ++ more) image ↔ MayStand g (after g spare m ask) asks more image

@@ -31,7 +31,8 @@ EndsByRun g lent image script ending None = ending ≡ NoMemory
 EndsByRun g lent image script ending (Some status) = IsTraced g lent image script ending status
 
 -- that run is one of a script on a copy of a volume
-pub record RunsCopies {D X : Type 0} (nor : NorOf D) (source : SourceOf X) (g : Geometry) (lent : Lengths) (old : D) (script : X) (ending : TraceEnding) (run : Option ℕ) : Type 0 where
+pub record RunsCopies {D X : Type 0} (nor : NorOf D) (source : SourceOf X) (g : Geometry) (lent : Lengths) (old : D) (script : X) (ending : TraceEnding)
+    (run : Option ℕ) : Type 0 where
   pub image : List ℕ
   pub text : List ℕ
   pub image_is : IsVolumeOf nor g old image
@@ -39,7 +40,8 @@ pub record RunsCopies {D X : Type 0} (nor : NorOf D) (source : SourceOf X) (g : 
   pub ends : EndsByRun g lent image text ending run
 
 -- why a trace ends so: there are no copies, or the run on them was judged
-abbrev pub WhyTraced : {D X : Type 0} (nor : NorOf D) (source : SourceOf X) (g : Geometry) (lent : Lengths) (old new : D) (script after : X) (ending : TraceEnding) (run : Option ℕ) → Type 0
+abbrev pub WhyTraced : {D X : Type 0} (nor : NorOf D) (source : SourceOf X) (g : Geometry) (lent : Lengths) (old new : D) (script after : X)
+    (ending : TraceEnding) (run : Option ℕ) → Type 0
 WhyTraced nor source g lent old new script after ending run =
     ((run ≡ None) × StopsCopy nor source g old new script after ending) ⊎ RunsCopies nor source g lent old script ending run
 
@@ -51,7 +53,8 @@ pub record HasLimits {D X : Type 0} (nor : NorOf D) (source : SourceOf X) (g : G
   pub short : length (source.left script) ≤ 16384
 
 -- A trace of a run on a volume of that geometry: the board is only read, and a line is said.
-pub record Traces {D X : Type 0} (nor : NorOf D) (source : SourceOf X) (g : Geometry) (lent : Lengths) (old new : D) (script after : X) (result : Traced) : Type 0 where
+pub record Traces {D X : Type 0} (nor : NorOf D) (source : SourceOf X) (g : Geometry) (lent : Lengths) (old new : D) (script after : X)
+    (result : Traced) : Type 0 where
   -- how it ends, and why
   pub ending : TraceEnding
   pub why : WhyTraced nor source g lent old new script after ending result.run
@@ -65,10 +68,12 @@ pub record Traces {D X : Type 0} (nor : NorOf D) (source : SourceOf X) (g : Geom
   pub lawful : result.status ≡ 19 → result.run ≡ Some 3
   -- .. and within the limits one on a volume, of which at most one block lacks its magic, is told to be legal, unless there is no memory or
   -- something can't be read
-  pub complete : HasLimits nor source g old script → spoiled_blocks g (volume_on nor g old) ≤ 1 → result.status ≢ 7 → result.status ≢ 8 → (result.status ≡ 0) ⊎ (result.status ≡ 15)
+  pub complete : HasLimits nor source g old script → spoiled_blocks g (volume_on nor g old) ≤ 1 → result.status ≢ 7 → result.status ≢ 8 →
+      (result.status ≡ 0) ⊎ (result.status ≡ 15)
 
 -- the same, for the volume that the words spell
-pub record TracesAsked {D X : Type 0} (nor : NorOf D) (source : SourceOf X) (a : Asked) (lent : Lengths) (old new : D) (script after : X) (result : Traced) : Type 0 where
+pub record TracesAsked {D X : Type 0} (nor : NorOf D) (source : SourceOf X) (a : Asked) (lent : Lengths) (old new : D) (script after : X)
+    (result : Traced) : Type 0 where
   pub geometry : Geometry
   pub planned : IsPlanned a geometry
   pub traces : Traces nor source geometry lent old new script after result

@@ -83,12 +83,15 @@ pub fn trace_tool<B: Board, S: Source>(
     bufs: &mut Buffers<'_>,
 ) -> Traced
     // What is refused before the chip is read: its closing line is said, and nothing else happens.
-    ensures refused { RefusesIf B.NorState board.old board.new (refusal_of (asked_of B.NorState (map string_bytes words.now) board.old bufs.old)) result.status }
-    ensures untaken { (ending : AnEnding) → refusal_of (asked_of B.NorState (map string_bytes words.now) board.old bufs.old) ≡ Some ending → script.new ≡ script.old }
+    ensures refused { RefusesIf B.NorState board.old board.new
+        (refusal_of (asked_of B.NorState (map string_bytes words.now) board.old bufs.old)) result.status }
+    ensures untaken { (ending : AnEnding) → refusal_of (asked_of B.NorState (map string_bytes words.now) board.old bufs.old) ≡ Some ending →
+        script.new ≡ script.old }
     ensures unrun { (ending : AnEnding) → refusal_of (asked_of B.NorState (map string_bytes words.now) board.old bufs.old) ≡ Some ending → result.run ≡ None }
     // Else the run is traced.
     ensures traces { refusal_of (asked_of B.NorState (map string_bytes words.now) board.old bufs.old) ≡ None →
-        TracesAsked B.NorState S.Source (asked_of B.NorState (map string_bytes words.now) board.old bufs.old) (lengths_of bufs.old) board.old board.new script.old script.new result }
+        TracesAsked B.NorState S.Source (asked_of B.NorState (map string_bytes words.now) board.old bufs.old)
+        (lengths_of bufs.old) board.old board.new script.old script.new result }
     // A fault is told only where one was counted.
     ensures board_fault { result.status ≡ 7 → Rose (B.faults board.old) (B.faults board.new) }
     ensures script_fault { result.status ≡ 8 → Rose (S.faults script.old) (S.faults script.new) }

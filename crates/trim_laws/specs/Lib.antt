@@ -1,2 +1,4 @@
 pub mod Trim
 pub mod Steps
+pub mod Wear
+pub mod Upkeep

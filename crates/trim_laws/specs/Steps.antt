@@ -22,9 +22,11 @@ KillTrims g = (a c : List ℕ) (p : ℕ) → KillLeaves g p a c ⊎ KillDone g p
 
 -- So does a program behind the header of a live page that is no header page, done or cut off,
 abbrev pub InPlaceTrims : Geometry → Type 0
-InPlaceTrims g = (a c : List ℕ) (p at : ℕ) (page asked : List ℕ) → IsImage g a → live_at g a p ≡ Some page → is_index (Some page) 0 ≡ false → p * g.page + 5 ≤ at → at + length asked ≤ p * g.page + g.page →
+InPlaceTrims g = (a c : List ℕ) (p at : ℕ) (page asked : List ℕ) → IsImage g a → live_at g a p ≡ Some page → is_index (Some page) 0 ≡ false →
+    p * g.page + 5 ≤ at → at + length asked ≤ p * g.page + g.page →
     HalfProgrammed at asked a c → Trims g a c
 
 -- and one of the flags of a live page.
 abbrev pub FlagsTrim : Geometry → Type 0
-FlagsTrim g = (a c : List ℕ) (p : ℕ) (page asked : List ℕ) → IsImage g a → live_at g a p ≡ Some page → length asked ≡ 1 → HalfProgrammed (p * g.page + 4) asked a c → Trims g a c
+FlagsTrim g = (a c : List ℕ) (p : ℕ) (page asked : List ℕ) → IsImage g a → live_at g a p ≡ Some page → length asked ≡ 1 →
+    HalfProgrammed (p * g.page + 4) asked a c → Trims g a c

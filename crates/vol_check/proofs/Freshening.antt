@@ -1,5 +1,5 @@
 -- The block without its magic, made fresh, over plain images.
-use Rattle.std.proofs.Common.{◌≡◌, ◌≢◌, ℕ, ◌*◌, ◌<◌, ◌≤◌, ◌⊎◌, ⊎_elim, List, true, false, not, Some, None, Result, OnErr, OnOk, refl, sym, ◌∙◌, subst, arith}
+use Rattle.std.proofs.Common.{◌≡◌, ◌≢◌, ℕ, ◌*◌, ◌<◌, ◌≤◌, ◌⊎◌, ⊎_elim, inl, inr, List, true, false, not, Some, None, Result, OnErr, OnOk, refl, sym, ◌∙◌, subst, arith}
 use Rattle.std.specs.Prelude.{find}
 use Rattle.std.specs.List.{range_with_len}
 use Rattle.std.proofs.Math.Bool.{and-false}
@@ -24,6 +24,7 @@ use Rattle.image_laws.proofs.Matching.{filter-none_in}
 use Rattle.image_laws.proofs.TidySteps.{wanted-same}
 use Rattle.image_laws.proofs.UsesStay.{uses-itself, uses-fresh}
 use Rattle.trim_laws.proofs.Trims.{block_trims}
+use Rattle.trim_laws.proofs.Wears.{fresh_wears, fresh_worn}
 use Rattle.free_search.proofs.Had.{filter_some}
 use Rattle.free_search.proofs.Beside.{page_other, magic_other, entry_other, free_entry_other, free_block_other, free_magic, free_entry_at, free_dead}
 use Rattle.room_laws.proofs.Recounts.{fresh_erases}
@@ -34,7 +35,7 @@ use Rattle.nor_core.specs.Count.{Rose}
 use Rattle.nor_core.specs.Device.{Changes}
 use Rattle.flash_view.specs.declared.view.View.{View}
 use Rattle.flash_view.specs.Same.{IsSameView, OnlyLooks}
-use Rattle.flash_view.specs.Steps.{Finishes, acting}
+use Rattle.flash_view.specs.Steps.{Finishes, acting, any_image}
 use Rattle.flash_view.proofs.Stepped.{acted, after_look}
 use Rattle.vol_check.specs.MadeFresh.{HasAllMagics, count_after, MadeFresh}
 use Rattle.vol_check.specs.Works.{Work, StageCut, step_of, Worked, making_fresh}
@@ -94,8 +95,8 @@ module _ (g : Geometry) (a : List ℕ) (c : ℕ) (is : IsImage g a) (h : HasMagi
       let tight = rw not_free at fall in
       omega (arith, tight)
 
-  dead_at : (x : List ℕ) → Freshens g c a x → (p : ℕ) → block_of g p ≡ c → live_at g x p ≡ None
-  dead_at x cut = ⊎_elim
+  dead_at : (erases : ℕ) (x : List ℕ) → Freshens g c erases a x → (p : ℕ) → block_of g p ≡ c → live_at g x p ≡ None
+  dead_at erases x cut = ⊎_elim
       (λ (same : x ≡ a). subst (λ (l : List ℕ). (p : ℕ) → block_of g p ≡ c → live_at g l p ≡ None) (sym same) dead_before)
       (λ (dead : (p : ℕ) → block_of g p ≡ c → live_at g x p ≡ None). dead)
       cut.dead
@@ -107,14 +108,14 @@ module _ (g : Geometry) (a : List ℕ) (c : ℕ) (is : IsImage g a) (h : HasMagi
       (cases_eq (block_of g p) c)
 
   -- the block lacks its magic still, or is free
-  fresh_uses : (x : List ℕ) → Freshens g c a x → SameUses g a x
-  fresh_uses x cut = ⊎_elim
+  fresh_uses : (erases : ℕ) (x : List ℕ) → Freshens g c erases a x → SameUses g a x
+  fresh_uses erases x cut = ⊎_elim
       (λ (same : x ≡ a). rw same (uses-itself g a))
-      (λ (state : (has_magic g x c ≡ false) ⊎ (is_free_block g x c ≡ true)). uses-fresh g a x c lacks cut.outside (live_too x cut.outside (dead_at x cut)) state)
+      (λ (state : (has_magic g x c ≡ false) ⊎ (is_free_block g x c ≡ true)). uses-fresh g a x c lacks cut.outside (live_too x cut.outside (dead_at erases x cut)) state)
       cut.state
 
-  fresh_cut : (x : List ℕ) → Freshens g c a x → StageCut g a x
-  fresh_cut x cut = record { keeps = record { keeps = erasing-sound g a x c is others cut.outside dead_before (dead_at x cut); free = more_free x cut.outside }; uses = fresh_uses x cut }
+  fresh_cut : (erases : ℕ) (x : List ℕ) → Freshens g c erases a x → StageCut g a x
+  fresh_cut erases x cut = record { keeps = record { keeps = erasing-sound g a x c is others cut.outside dead_before (dead_at erases x cut); free = more_free x cut.outside }; uses = fresh_uses erases x cut }
 
   module _ (b : List ℕ) (erases : ℕ) (next : erases ≡ next_count g a) (fresh : IsFresh g c erases a b) where
     fresh_live : (p : ℕ) → live_at g b p ≡ live_at g a p
@@ -155,8 +156,19 @@ module _ (g : Geometry) (a : List ℕ) (c : ℕ) (is : IsImage g a) (h : HasMagi
     }
 
   -- making it fresh
-  freshens : (erases : ℕ) → erases ≡ next_count g a → Finishes g a a (acting (λ h. Freshens h c) (λ h. IsFresh h c erases)) (step_of (freshening c))
-  freshens erases next = record { needs = λ x cut. block_trims g a x c cut.outside cut.dead; cut = fresh_cut; done = λ b ok fresh. made b erases next fresh }
+  freshens : (erases : ℕ) → erases ≡ next_count g a → Finishes g a a (acting any_image (λ h. Freshens h c erases) (λ h. IsFresh h c erases)) (step_of (freshening c))
+  freshens erases next = record {
+    needs = (
+      tt,
+      (λ x cut. record {
+        trims = block_trims g a x c cut.outside cut.dead;
+        wears = fresh_wears g a x c low cut.outside (λ has. ⊎_elim (λ (same : x ≡ a). inl same) (λ (e : erase_count g x c ≡ erases). inr (e ∙ next)) (cut.counts has));
+      }),
+      λ x fresh. fresh_worn g a x c low fresh.outside (free_magic g x c fresh.free) (fresh.count ∙ next),
+    );
+    cut = fresh_cut erases;
+    done = λ b ok fresh. made b erases next fresh;
+  }
 
 -- where all blocks have their magic nothing is done
 pub made_none : (g : Geometry) (a : List ℕ) → HasAllMagics g a → MadeFresh g false a a
@@ -177,9 +189,9 @@ next_told {nor = nor} {old = old} {mid = mid} n looks told tells =
 
 -- making a block fresh after looks
 pub freshens_block : {N : Type 0} {nor : NorOf N} {old mid new : View N nor} {r : Result (Unit {0}) Failed} {c : ℕ} (erases : ℕ) → OnlyLooks old mid → IsSameView mid new → new.wrote ≡ true → OnErr r (Rose (nor.faults mid.nor.now) (nor.faults new.nor.now)) →
-    Changes nor mid.nor.now new.nor.now (Freshens mid.geometry c) → (nor.tells mid.nor.now → OnOk r (IsFresh mid.geometry c erases (nor.bytes mid.nor.now) (nor.bytes new.nor.now))) →
-    (nor.tells old.nor.now → IsImage old.geometry (nor.bytes old.nor.now)) → (nor.tells old.nor.now → erases ≡ next_count old.geometry (nor.bytes old.nor.now)) → Worked old new r (freshening c)
-freshens_block {c = c} erases looks same wrote cause changes done image next = record {
-  step = after_look looks (acted (λ h. Freshens h c) (λ h. IsFresh h c erases) same wrote cause changes done) (λ tells need. freshens _ _ c (image tells) need.0 need.1.0 need.1.1 erases (next tells));
+    Changes nor mid.nor.now new.nor.now (Freshens mid.geometry c erases) → (nor.tells mid.nor.now → OnOk r (IsFresh mid.geometry c erases (nor.bytes mid.nor.now) (nor.bytes new.nor.now))) →
+    (nor.tells mid.nor.now → mid.counted ≡ true → OnOk r (new.counted ≡ true)) → (nor.tells old.nor.now → IsImage old.geometry (nor.bytes old.nor.now)) → (nor.tells old.nor.now → erases ≡ next_count old.geometry (nor.bytes old.nor.now)) → Worked old new r (freshening c)
+freshens_block {c = c} erases looks same wrote cause changes done counted image next = record {
+  step = after_look looks (acted any_image (λ h. Freshens h c erases) (λ h. IsFresh h c erases) same wrote cause changes done (λ any. counted)) (λ tells need. freshens _ _ c (image tells) need.0 need.1.0 need.1.1 erases (next tells));
   idle = λ tells magics need none. absurd (none);
 }

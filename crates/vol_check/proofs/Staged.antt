@@ -27,7 +27,7 @@ use Rattle.nor_core.specs.Device.{Changes}
 use Rattle.nor_core.specs.Flash.{HalfProgrammed}
 use Rattle.flash_view.specs.declared.view.View.{View}
 use Rattle.flash_view.specs.Same.{IsSameView, OnlyLooks}
-use Rattle.flash_view.specs.Steps.{Finishes, making}
+use Rattle.flash_view.specs.Steps.{Finishes, making, any_image}
 use Rattle.flash_view.proofs.Stepped.{after_look, made}
 use Rattle.page_put.specs.Kills.{deleted, killed, HalfKilled}
 use Rattle.page_put.specs.LivePages.{Stays, Cleared}
@@ -102,7 +102,7 @@ module _ (g : Geometry) (a : List ℕ) (p : ℕ) (is : IsImage g a) (h : HasMagi
     uses = uses-agree g a c p s.agree (used_not_free g a p dead) used (wanted-same g a c s.live) (λ q wanted. s.live q);
   }
 
-  clears_entry : Finishes g a a (making (λ k. HalfKilled k p) (λ k. killed k p)) (step_of (killing_entry p))
+  clears_entry : Finishes g a a (making any_image (λ k. HalfKilled k p) (λ k. killed k p)) (step_of (killing_entry p))
   clears_entry =
       let clears = clears_dead g a p is (record { inside = page; dead = unused_dead g a p dead; byte = byte }) in
       record {
@@ -122,9 +122,10 @@ must_be_killed g a p dead = record { needs = dead; idle = λ quiet. let bad : tr
 -- a kill after a look that told the flags to be a byte
 pub kills_entry : {N : Type 0} {nor : NorOf N} {old mid new : View N nor} {r : Result (Unit {0}) Failed} {p : ℕ} → OnlyLooks old mid → IsSameView mid new → new.wrote ≡ true → OnErr r (Rose (nor.faults mid.nor.now) (nor.faults new.nor.now)) →
     Changes nor mid.nor.now new.nor.now (HalfKilled mid.geometry p) → (nor.tells mid.nor.now → OnOk r (nor.bytes new.nor.now ≡ killed mid.geometry p (nor.bytes mid.nor.now))) →
+    (nor.tells mid.nor.now → mid.counted ≡ true → OnOk r (new.counted ≡ true)) →
     (nor.tells old.nor.now → IsImage old.geometry (nor.bytes old.nor.now)) → On old (killing_entry p) (λ g a. slice_index a (p * g.page + 4) < 256) → Worked old new r (killing_entry p)
-kills_entry {p = p} looks same wrote cause changes done image byte = record {
-  step = after_look looks (made (λ k. HalfKilled k p) (λ k. killed k p) same wrote cause changes done) (λ tells need. clears_entry _ _ p (image tells) need.0 need.1 (byte tells need.0 need.1));
+kills_entry {p = p} looks same wrote cause changes done counted image byte = record {
+  step = after_look looks (made any_image (λ k. HalfKilled k p) (λ k. killed k p) same wrote cause changes done (λ any. counted)) (λ tells need. clears_entry _ _ p (image tells) need.0 need.1 (byte tells need.0 need.1));
   idle = λ tells magics need none. absurd (none);
 }
 

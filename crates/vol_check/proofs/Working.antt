@@ -1,5 +1,6 @@
 -- Works of the check, one after the other.
-use Rattle.std.proofs.Common.{◌≡◌, ℕ, List, refl, sym, arith, subst, Result, Ok, Err, MatchResult, IsErr}
+use Rattle.std.proofs.Common.{◌≡◌, ℕ, List, true, refl, sym, ◌∙◌, arith, subst, Result, Ok, Err, MatchResult, IsErr}
+use Rattle.std.proofs.lemmas.Result.{on_ok_weaker}
 use Rattle.geometry.specs.declared.geometry.Geometry.{Geometry}
 use Rattle.nor_core.specs.declared.device.Failed.{Failed}
 use Rattle.nor_core.specs.declared.state.NorState.{Ghosts as NorOf}
@@ -7,6 +8,8 @@ use Rattle.nor_core.specs.Count.{Rose}
 use Rattle.nor_core.specs.Device.{OnlyReads, Changes}
 use Rattle.nor_core.proofs.Cuts.{wider, read_after, reads_then, after_reads, unchanged}
 use Rattle.image_model.specs.Sound.{HasMagics}
+use Rattle.trim_laws.specs.Wear.{Worn}
+use Rattle.trim_laws.proofs.Wears.{upkeep_none}
 use Rattle.flash_view.specs.declared.view.View.{View}
 use Rattle.flash_view.specs.Same.{OnlyLooks, OnlyCounts}
 use Rattle.flash_view.proofs.Looking.{looks_counts}
@@ -65,22 +68,24 @@ module _ {N : Type 0} {nor : NorOf N} where
           reads_then looks.reads (call.idle (looks.reads.told tells) (moved HasMagics geo bytes magics) (moved work.needs geo bytes need) (moved work.idle geo bytes quiet));
     }
 
-    -- a look after a work
-    pub works_counted : Worked old mid r work → OnlyCounts mid new → Worked old new r work
-    works_counted call counts = record {
+    -- reads after a work, over which the table of counts stands still
+    pub works_counted : Worked old mid r work → OnlyCounts mid new → (mid.counted ≡ true → new.counted ≡ true) → Worked old new r work
+    works_counted call counts still = record {
       step = record {
         framed = framed_then call.step.framed (framed_counts counts);
         cause = λ e. let rose = call.step.cause e in let more = counts.same.faults in omega arith;
         means = call.step.means;
         cuts = read_after call.step.cuts counts.reads;
-        trims = read_after call.step.trims counts.reads;
+        upkeep = read_after call.step.upkeep counts.reads;
+        worn = λ tells need. on_ok_weaker r (subst (λ (b : List ℕ). Worn old.geometry (nor.bytes old.nor.now) b) (sym counts.reads.bytes)) (call.step.worn tells need);
+        stands = λ tells need stood. on_ok_weaker r still (call.step.stands tells need stood);
         ends = λ tells need. subst (λ (b : List ℕ). MatchResult r (work.done old.geometry (nor.bytes old.nor.now) b) (λ why. why ≡ failed.fault)) (sym counts.reads.bytes) (call.step.ends tells need);
       };
       idle = λ tells magics need quiet. reads_then (call.idle tells magics need quiet) counts.reads;
     }
 
     pub works_read : Worked old mid r work → OnlyLooks mid new → Worked old new r work
-    works_read call looks = works_counted call (looks_counts looks)
+    works_read call looks = works_counted call (looks_counts looks) (λ stood. looks.counted ∙ stood)
 
   -- ---- as part of another
 
@@ -163,7 +168,9 @@ module _ {N : Type 0} {nor : NorOf N} where
             cause = λ e. rose;
             means = tt;
             cuts = after_reads counts.reads (unchanged new.nor.now _ (λ tells need. stage_none _ _ need.0));
-            trims = after_reads counts.reads (unchanged new.nor.now _ (λ tells need trim. trim));
+            upkeep = after_reads counts.reads (unchanged new.nor.now _ (λ tells need. upkeep_none mid.geometry _));
+            worn = λ tells need. tt;
+            stands = λ tells need stood. tt;
             ends = λ tells need. refl;
           };
           idle = λ tells magics need quiet. counts.reads;

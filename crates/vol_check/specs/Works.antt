@@ -18,13 +18,15 @@ use Rattle.flash_view.specs.Steps.{Step, Stepped, failed}
 use Rattle.vol_check.specs.declared.checking.Culled.{Culled}
 use Rattle.vol_check.specs.declared.report.Report.{Report}
 use Rattle.vol_check.specs.Stage.{IsClean, CleansEntry, CleansEntries}
-use Rattle.vol_check.specs.Culls.{MayCull, Culls, is_doubled, HasNoDoubles, IsSettled, is_unwanted, IsServed, CullsDoubled, CullsHead, CullsRest, PassesDoubled, PassesDamaged, PassesRest, CullsPages}
+use Rattle.vol_check.specs.Culls.{MayCull, Culls, is_doubled, HasNoDoubles, IsSettled, is_unwanted, IsServed, CullsDoubled, CullsHead, CullsRest, PassesDoubled}
+use Rattle.vol_check.specs.Culls.{PassesDamaged, PassesRest, CullsPages}
 use Rattle.vol_check.specs.Noted.{Notes, IsIndexPage}
 use Rattle.vol_check.specs.Needed.{TellsUnwanted}
 use Rattle.vol_check.specs.MadeFresh.{HasAllMagics, MadeFresh}
 use Rattle.vol_check.specs.Checks.{Checked}
 
--- A work of the check, on an image of which at most one block lacks its magic: what else it needs of that image, what it leaves done, and where there is nothing to do.
+-- A work of the check, on an image of which at most one block lacks its magic: what else it needs of that image, what it leaves done,
+-- and where there is nothing to do.
 pub record Work (T : Type 0) : Type 1 where
   pub needs : Geometry → List ℕ → Type 0
   pub done : Geometry → List ℕ → List ℕ → T → Type 0
@@ -42,7 +44,8 @@ step_of work = record { needs = λ g was. HasMagics g was × work.needs g was; c
 -- A call did that work, and only read where there was nothing to do.
 pub record Worked {N T : Type 0} {nor : NorOf N} (old new : View N nor) (result : Result T Failed) (work : Work T) : Type 0 where
   pub step : Stepped failed old new result (step_of work)
-  pub idle : nor.tells old.nor.now → HasMagics old.geometry (nor.bytes old.nor.now) → work.needs old.geometry (nor.bytes old.nor.now) → work.idle old.geometry (nor.bytes old.nor.now) → OnlyReads nor old.nor.now new.nor.now
+  pub idle : nor.tells old.nor.now → HasMagics old.geometry (nor.bytes old.nor.now) → work.needs old.geometry (nor.bytes old.nor.now) →
+      work.idle old.geometry (nor.bytes old.nor.now) → OnlyReads nor old.nor.now new.nor.now
 
 -- page p is the header page of the id, no page is doubled, and the marks are right
 pub record IsHead (g : Geometry) (image : List ℕ) (id p : ℕ) (marks : List ℕ) : Type 0 where
@@ -66,7 +69,8 @@ abbrev pub making_fresh : Work Bool
 making_fresh = record { needs = λ g was. Unit {0}; done = λ g was now erased. MadeFresh g erased was now; idle = λ g was. HasAllMagics g was }
 
 abbrev pub cleaning_entry : ℕ → Work Bool
-cleaning_entry p = record { needs = λ g was. Unit {0}; done = λ g was now killed. CleansEntry g p killed was now; idle = λ g was. is_dead_entry g was p ≡ false }
+cleaning_entry p =
+    record { needs = λ g was. Unit {0}; done = λ g was now killed. CleansEntry g p killed was now; idle = λ g was. is_dead_entry g was p ≡ false }
 
 abbrev pub cleaning_entries : Work ℕ
 cleaning_entries = record { needs = λ g was. Unit {0}; done = λ g was now killed. CleansEntries g killed was now; idle = λ g was. IsClean g was }
@@ -77,19 +81,32 @@ abbrev pub culling : ℕ → Work (Unit {0})
 culling p = record { needs = λ g was. MayCull g was p; done = λ g was now ok. Culls g p true was now; idle = λ g was. ⊥ }
 
 abbrev pub culling_doubled : ℕ → PageHeader → List ℕ → List ℕ → Work Bool
-culling_doubled p head bits later = record { needs = λ g was. Notes g was p bits × IsIndexPage g was p head; done = λ g was now killed. TurnsDoubled g p later killed was now; idle = λ g was. is_doubled g was p ≡ false }
+culling_doubled p head bits later = record {
+  needs = λ g was. Notes g was p bits × IsIndexPage g was p head;
+  done = λ g was now killed. TurnsDoubled g p later killed was now;
+  idle = λ g was. is_doubled g was p ≡ false;
+}
 
 abbrev pub culling_doubles : Work ℕ
 culling_doubles = record { needs = λ g was. Unit {0}; done = λ g was now killed. PassesDoubled g killed was now; idle = λ g was. HasNoDoubles g was }
 
 abbrev pub culling_head : ℕ → ℕ → List ℕ → List ℕ → Work Bool
-culling_head id p marks later = record { needs = λ g was. IsHead g was id p marks; done = λ g was now killed. TurnsHead g id p later killed was now; idle = λ g was. cause_at g was id ≡ None }
+culling_head id p marks later = record {
+  needs = λ g was. IsHead g was id p marks;
+  done = λ g was now killed. TurnsHead g id p later killed was now;
+  idle = λ g was. cause_at g was id ≡ None;
+}
 
 abbrev pub culling_damaged : Work ℕ
-culling_damaged = record { needs = λ g was. HasNoDoubles g was; done = λ g was now killed. PassesDamaged g killed was now; idle = λ g was. damaged_of g was ≡ [] }
+culling_damaged =
+    record { needs = λ g was. HasNoDoubles g was; done = λ g was now killed. PassesDamaged g killed was now; idle = λ g was. damaged_of g was ≡ [] }
 
 abbrev pub culling_unmarked : ℕ → ℕ → Work Bool
-culling_unmarked p mark = record { needs = λ g was. IsSettled g was × TellsUnwanted g was p mark × (is_some (live_at g was p) ≡ true); done = λ g was now killed. CullsRest g p killed was now; idle = λ g was. is_unwanted g was p ≡ false }
+culling_unmarked p mark = record {
+  needs = λ g was. IsSettled g was × TellsUnwanted g was p mark × (is_some (live_at g was p) ≡ true);
+  done = λ g was now killed. CullsRest g p killed was now;
+  idle = λ g was. is_unwanted g was p ≡ false;
+}
 
 abbrev pub culling_rest : Work ℕ
 culling_rest = record { needs = λ g was. IsSettled g was; done = λ g was now killed. PassesRest g killed was now; idle = λ g was. IsServed g was }

@@ -31,7 +31,8 @@ pub(crate) fn is_alive_by<N: Nor>(
     ensures cause { OnErr result (Rose (N.faults v.old.nor.now) (N.faults v.new.nor.now)) }
     ensures looks { OnlyLooks v.old v.new }
     ensures byte { N.tells v.old.nor.now → IfOk result (λ alive. slice_index (N.bytes v.old.nor.now) (page * v.old.geometry.page + 4) < 256) }
-    ensures told { N.tells v.old.nor.now → has_magic v.old.geometry (N.bytes v.old.nor.now) (block_of v.old.geometry page) ≡ true → entry ≡ entry_of v.old.geometry (N.bytes v.old.nor.now) page → IfOk result (λ alive. alive ≡ is_live v.old.geometry (N.bytes v.old.nor.now) page) }
+    ensures told { N.tells v.old.nor.now → has_magic v.old.geometry (N.bytes v.old.nor.now) (block_of v.old.geometry page) ≡ true →
+        entry ≡ entry_of v.old.geometry (N.bytes v.old.nor.now) page → IfOk result (λ alive. alive ≡ is_live v.old.geometry (N.bytes v.old.nor.now) page) }
 {
     let head = v.header(page)?;
     Ok(is_named(entry, head))
@@ -44,7 +45,8 @@ pub(crate) fn is_alive<N: Nor>(v: &mut View<'_, N>, page: u16) -> Result<bool, F
     ensures cause { OnErr result (Rose (N.faults v.old.nor.now) (N.faults v.new.nor.now)) }
     ensures looks { OnlyLooks v.old v.new }
     ensures byte { N.tells v.old.nor.now → IfOk result (λ alive. slice_index (N.bytes v.old.nor.now) (page * v.old.geometry.page + 4) < 256) }
-    ensures told { N.tells v.old.nor.now → has_magic v.old.geometry (N.bytes v.old.nor.now) (block_of v.old.geometry page) ≡ true → IfOk result (λ alive. alive ≡ is_live v.old.geometry (N.bytes v.old.nor.now) page) }
+    ensures told { N.tells v.old.nor.now → has_magic v.old.geometry (N.bytes v.old.nor.now) (block_of v.old.geometry page) ≡ true →
+        IfOk result (λ alive. alive ≡ is_live v.old.geometry (N.bytes v.old.nor.now) page) }
 {
     let entry = v.entry(page)?;
     is_alive_by(v, page, entry)

@@ -43,7 +43,8 @@ fn is_later<N: Nor>(
     requires room { 4096 ≤ length bits.old }
     ensures cause { OnErr result (Rose (N.faults v.old.nor.now) (N.faults v.new.nor.now)) }
     ensures looks { OnlyLooks v.old v.new }
-    ensures told { N.tells v.old.nor.now → Notes v.old.geometry (N.bytes v.old.nor.now) page bits.old → IsIndexPage v.old.geometry (N.bytes v.old.nor.now) page head → IfOk result (λ later. TellsDoubled v.old.geometry (N.bytes v.old.nor.now) page later bits.new) }
+    ensures told { N.tells v.old.nor.now → Notes v.old.geometry (N.bytes v.old.nor.now) page bits.old → IsIndexPage v.old.geometry
+        (N.bytes v.old.nor.now) page head → IfOk result (λ later. TellsDoubled v.old.geometry (N.bytes v.old.nor.now) page later bits.new) }
 {
     if let Some(noted) = note(bits, head) {
         return Ok(noted);

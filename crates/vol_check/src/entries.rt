@@ -21,7 +21,8 @@ fn is_taken<N: Nor>(v: &mut View<'_, N>, page: u16, entry: u16) -> Result<bool, 
     requires { IsEntryPage v.old.geometry page }
     ensures cause { OnErr result (Rose (N.faults v.old.nor.now) (N.faults v.new.nor.now)) }
     ensures looks { OnlyLooks v.old v.new }
-    ensures told { N.tells v.old.nor.now → entry ≡ entry_of v.old.geometry (N.bytes v.old.nor.now) page → IfOk result (λ taken. taken ≡ is_taken_entry v.old.geometry (N.bytes v.old.nor.now) page) }
+    ensures told { N.tells v.old.nor.now → entry ≡ entry_of v.old.geometry (N.bytes v.old.nor.now) page →
+        IfOk result (λ taken. taken ≡ is_taken_entry v.old.geometry (N.bytes v.old.nor.now) page) }
 {
     match entry {
         DELETED => Ok(false),

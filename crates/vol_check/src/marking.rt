@@ -8,7 +8,8 @@ ghost use Rattle.image_model.specs.Live.{live_at, own};
 ghost use Rattle.image_model.specs.Files.{index_page, first_missing};
 ghost use Rattle.flash_view.specs.Same.{OnlyLooks};
 ghost use Rattle.vol_check.specs.Culls.{IsSettled};
-ghost use Rattle.vol_check.specs.Needed.{AddsMarks, IsNamed, OfHead, OfFurther, OfFirst, OfFile, OfHeaded, TellsListed, MarksListed, HasFurthers, MarksWanted, MarksUses};
+ghost use Rattle.vol_check.specs.Needed.{AddsMarks, IsNamed, OfHead, OfFurther, OfFirst, OfFile, OfHeaded, TellsListed, MarksListed, HasFurthers, MarksWanted};
+ghost use Rattle.vol_check.specs.Needed.{MarksUses};
 ghost use Rattle.vol_check.specs.Noted.{IsIndexPage};
 
 use file_find::survey as mark_heads;
@@ -59,8 +60,10 @@ fn mark_head<N: Nor>(v: &mut View<'_, N>, marks: &mut [u8], header: u16) -> Resu
     ensures cause { OnErr result (Rose (N.faults v.old.nor.now) (N.faults v.new.nor.now)) }
     ensures looks { OnlyLooks v.old v.new }
     ensures few { IfOk result (λ spans. spans < 2 ^ 26) }
-    ensures spans { N.tells v.old.nor.now → IfOk result (λ spans. spans ≡ the_data_pages v.old.geometry (size_of (page_of v.old.geometry (N.bytes v.old.nor.now) header))) }
-    ensures told { N.tells v.old.nor.now → OnOk result (AddsMarks (page_count v.old.geometry) (OfHead v.old.geometry (page_of v.old.geometry (N.bytes v.old.nor.now) header) header) marks.old marks.new) }
+    ensures spans { N.tells v.old.nor.now →
+        IfOk result (λ spans. spans ≡ the_data_pages v.old.geometry (size_of (page_of v.old.geometry (N.bytes v.old.nor.now) header))) }
+    ensures told { N.tells v.old.nor.now → OnOk result
+        (AddsMarks (page_count v.old.geometry) (OfHead v.old.geometry (page_of v.old.geometry (N.bytes v.old.nor.now) header) header) marks.old marks.new) }
 {
     let g = v.geometry;
     let pages = g.pages();
@@ -92,7 +95,8 @@ fn mark_index<N: Nor>(
     requires few { count ≤ span_slots v.old.geometry }
     ensures cause { OnErr result (Rose (N.faults v.old.nor.now) (N.faults v.new.nor.now)) }
     ensures looks { OnlyLooks v.old v.new }
-    ensures told { N.tells v.old.nor.now → OnOk result (AddsMarks (page_count v.old.geometry) (λ p. p ≡ index ⊎ IsNamed (page_of v.old.geometry (N.bytes v.old.nor.now) index) 8 count p) marks.old marks.new) }
+    ensures told { N.tells v.old.nor.now → OnOk result (AddsMarks (page_count v.old.geometry)
+        (λ p. p ≡ index ⊎ IsNamed (page_of v.old.geometry (N.bytes v.old.nor.now) index) 8 count p) marks.old marks.new) }
 {
     let pages = v.geometry.pages();
     v.fetch(index)?;
@@ -122,8 +126,10 @@ fn mark_further<N: Nor>(
     requires few { spans < 2 ^ 26 }
     ensures cause { OnErr result (Rose (N.faults v.old.nor.now) (N.faults v.new.nor.now)) }
     ensures looks { OnlyLooks v.old v.new }
-    ensures there { N.tells v.old.nor.now → IfOk result (λ there. there ≡ is_some (index_page v.old.geometry (own (live_at v.old.geometry (N.bytes v.old.nor.now)) id) (k + 1))) }
-    ensures told { N.tells v.old.nor.now → OnOk result (AddsMarks (page_count v.old.geometry) (OfFurther v.old.geometry (N.bytes v.old.nor.now) id k spans) marks.old marks.new) }
+    ensures there { N.tells v.old.nor.now →
+        IfOk result (λ there. there ≡ is_some (index_page v.old.geometry (own (live_at v.old.geometry (N.bytes v.old.nor.now)) id) (k + 1))) }
+    ensures told { N.tells v.old.nor.now →
+        OnOk result (AddsMarks (page_count v.old.geometry) (OfFurther v.old.geometry (N.bytes v.old.nor.now) id k spans) marks.old marks.new) }
 {
     let g = v.geometry;
     let Some(index) = v.find_span(id, k + 1)? else {
@@ -147,7 +153,9 @@ fn mark_furthers<N: Nor>(
     requires few { spans < 2 ^ 26 }
     ensures cause { OnErr result (Rose (N.faults v.old.nor.now) (N.faults v.new.nor.now)) }
     ensures looks { OnlyLooks v.old v.new }
-    ensures told { N.tells v.old.nor.now → HasFurthers v.old.geometry (N.bytes v.old.nor.now) id spans → OnOk result (AddsMarks (page_count v.old.geometry) (OfFirst (λ k p. OfFurther v.old.geometry (N.bytes v.old.nor.now) id k spans p) (ceil (spans - head_slots v.old.geometry) (span_slots v.old.geometry))) marks.old marks.new) }
+    ensures told { N.tells v.old.nor.now → HasFurthers v.old.geometry (N.bytes v.old.nor.now) id spans →
+        OnOk result (AddsMarks (page_count v.old.geometry) (OfFirst (λ k p. OfFurther v.old.geometry (N.bytes v.old.nor.now) id k spans p)
+        (ceil (spans - head_slots v.old.geometry) (span_slots v.old.geometry))) marks.old marks.new) }
 {
     for k in 0..further_pages(&v.geometry, spans) {
         if !mark_further(v, marks, id, k, spans)? {
@@ -169,7 +177,9 @@ fn mark_file<N: Nor>(
     requires header { header < page_count v.old.geometry }
     ensures cause { OnErr result (Rose (N.faults v.old.nor.now) (N.faults v.new.nor.now)) }
     ensures looks { OnlyLooks v.old v.new }
-    ensures told { N.tells v.old.nor.now → first_missing v.old.geometry (own (live_at v.old.geometry (N.bytes v.old.nor.now)) id) (page_of v.old.geometry (N.bytes v.old.nor.now) header) ≡ None → OnOk result (AddsMarks (page_count v.old.geometry) (OfFile v.old.geometry (N.bytes v.old.nor.now) id header) marks.old marks.new) }
+    ensures told { N.tells v.old.nor.now →
+        first_missing v.old.geometry (own (live_at v.old.geometry (N.bytes v.old.nor.now)) id) (page_of v.old.geometry (N.bytes v.old.nor.now) header) ≡ None →
+        OnOk result (AddsMarks (page_count v.old.geometry) (OfFile v.old.geometry (N.bytes v.old.nor.now) id header) marks.old marks.new) }
 {
     let spans = mark_head(v, marks, header)?;
     mark_furthers(v, marks, id, spans)
@@ -188,7 +198,9 @@ fn mark_headed<N: Nor>(
     requires page { page < page_count v.old.geometry }
     ensures cause { OnErr result (Rose (N.faults v.old.nor.now) (N.faults v.new.nor.now)) }
     ensures looks { OnlyLooks v.old v.new }
-    ensures told { N.tells v.old.nor.now → TellsListed v.old.geometry (N.bytes v.old.nor.now) least page (slice_index marks.old page) → IsIndexPage v.old.geometry (N.bytes v.old.nor.now) page head → OnOk result (AddsMarks (page_count v.old.geometry) (OfHeaded v.old.geometry (N.bytes v.old.nor.now) page) marks.old marks.new) }
+    ensures told { N.tells v.old.nor.now → TellsListed v.old.geometry (N.bytes v.old.nor.now) least page (slice_index marks.old page) →
+        IsIndexPage v.old.geometry (N.bytes v.old.nor.now) page head →
+        OnOk result (AddsMarks (page_count v.old.geometry) (OfHeaded v.old.geometry (N.bytes v.old.nor.now) page) marks.old marks.new) }
 {
     if head.span != 0 {
         return Ok(());
@@ -207,7 +219,8 @@ fn mark_files<N: Nor>(v: &mut View<'_, N>, marks: &mut [u8], least: u8) -> Resul
     requires least { least ≤ 3 }
     ensures cause { OnErr result (Rose (N.faults v.old.nor.now) (N.faults v.new.nor.now)) }
     ensures looks { OnlyLooks v.old v.new }
-    ensures told { N.tells v.old.nor.now → MarksListed v.old.geometry (N.bytes v.old.nor.now) least marks.old → OnOk result (AddsMarks (page_count v.old.geometry) (OfFirst (OfHeaded v.old.geometry (N.bytes v.old.nor.now)) (page_count v.old.geometry)) marks.old marks.new) }
+    ensures told { N.tells v.old.nor.now → MarksListed v.old.geometry (N.bytes v.old.nor.now) least marks.old → OnOk result
+        (AddsMarks (page_count v.old.geometry) (OfFirst (OfHeaded v.old.geometry (N.bytes v.old.nor.now)) (page_count v.old.geometry)) marks.old marks.new) }
 {
     let mut at = 0;
     'pages: while let Some((page, head)) = v.next_live(at, INDEX_BIT, FREE - 1)? {
@@ -223,7 +236,8 @@ pub(crate) fn mark_wanted<N: Nor>(v: &mut View<'_, N>, marks: &mut [u8]) -> Resu
     requires room { page_count v.old.geometry ≤ length marks.old }
     ensures cause { OnErr result (Rose (N.faults v.old.nor.now) (N.faults v.new.nor.now)) }
     ensures looks { OnlyLooks v.old v.new }
-    ensures told { N.tells v.old.nor.now → IsSettled v.old.geometry (N.bytes v.old.nor.now) → OnOk result (MarksWanted v.old.geometry (N.bytes v.old.nor.now) marks.new) }
+    ensures told { N.tells v.old.nor.now → IsSettled v.old.geometry (N.bytes v.old.nor.now) →
+        OnOk result (MarksWanted v.old.geometry (N.bytes v.old.nor.now) marks.new) }
 {
     clear(marks, v.geometry.pages() as usize);
     mark_files(v, marks, 0)

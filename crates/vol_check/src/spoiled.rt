@@ -16,7 +16,8 @@ fn spoiled_block<N: Nor>(v: &mut View<'_, N>) -> Result<Option<u16>, Failed>
     ensures cause { OnErr result (Rose (N.faults v.old.nor.now) (N.faults v.new.nor.now)) }
     ensures looks { OnlyLooks v.old v.new }
     ensures below { IfOk result (λ found. IfSome found (λ block. block < v.old.geometry.blocks)) }
-    ensures told { N.tells v.old.nor.now → IfOk result (λ found. found ≡ find (λ block. not (has_magic v.old.geometry (N.bytes v.old.nor.now) block)) (range_with_len 0 v.old.geometry.blocks)) }
+    ensures told { N.tells v.old.nor.now →
+        IfOk result (λ found. found ≡ find (λ block. not (has_magic v.old.geometry (N.bytes v.old.nor.now) block)) (range_with_len 0 v.old.geometry.blocks)) }
 {
     for block in 0..v.geometry.blocks() as u16 {
         if !v.has_magic(block)? {

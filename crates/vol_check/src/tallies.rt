@@ -95,7 +95,8 @@ fn block_tally<N: Nor>(v: &mut View<'_, N>, marks: &[u8], block: u16) -> Result<
     ensures cause { OnErr result (Rose (N.faults v.old.nor.now) (N.faults v.new.nor.now)) }
     ensures looks { OnlyLooks v.old v.new }
     ensures few { IfOk result (IsFew 65535) }
-    ensures told { N.tells v.old.nor.now → MarksUses v.old.geometry (N.bytes v.old.nor.now) marks.now → IfOk result (IsTally v.old.geometry (N.bytes v.old.nor.now) block) }
+    ensures told { N.tells v.old.nor.now → MarksUses v.old.geometry (N.bytes v.old.nor.now) marks.now →
+        IfOk result (IsTally v.old.geometry (N.bytes v.old.nor.now) block) }
 {
     if !v.has_magic(block)? {
         return Ok(spoiled_tally());
@@ -111,7 +112,8 @@ pub(crate) fn tally_all<N: Nor>(v: &mut View<'_, N>, marks: &[u8]) -> Result<Tal
     ensures cause { OnErr result (Rose (N.faults v.old.nor.now) (N.faults v.new.nor.now)) }
     ensures looks { OnlyLooks v.old v.new }
     ensures few { IfOk result (IsFew 4294836225) }
-    ensures told { N.tells v.old.nor.now → MarksUses v.old.geometry (N.bytes v.old.nor.now) marks.now → IfOk result (IsTallied v.old.geometry (N.bytes v.old.nor.now)) }
+    ensures told { N.tells v.old.nor.now → MarksUses v.old.geometry (N.bytes v.old.nor.now) marks.now →
+        IfOk result (IsTallied v.old.geometry (N.bytes v.old.nor.now)) }
 {
     let mut all = no_tally();
     for block in 0..v.geometry.blocks() as u16 {

@@ -78,7 +78,8 @@ fn entry_use<N: Nor>(v: &mut View<'_, N>, page: u16, mark: u8) -> Result<Uses, F
     ensures cause { OnErr result (Rose (N.faults v.old.nor.now) (N.faults v.new.nor.now)) }
     ensures looks { OnlyLooks v.old v.new }
     ensures few { IfOk result (FewUses 1) }
-    ensures told { N.tells v.old.nor.now → TellsWanted v.old.geometry (N.bytes v.old.nor.now) page mark → IfOk result (IsUse v.old.geometry (N.bytes v.old.nor.now) page) }
+    ensures told { N.tells v.old.nor.now → TellsWanted v.old.geometry (N.bytes v.old.nor.now) page mark →
+        IfOk result (IsUse v.old.geometry (N.bytes v.old.nor.now) page) }
 {
     let entry = v.entry(page)?;
     if entry == FREE {
@@ -102,7 +103,8 @@ pub(crate) fn block_uses<N: Nor>(
     ensures cause { OnErr result (Rose (N.faults v.old.nor.now) (N.faults v.new.nor.now)) }
     ensures looks { OnlyLooks v.old v.new }
     ensures few { IfOk result (FewUses 65535) }
-    ensures told { N.tells v.old.nor.now → MarksUses v.old.geometry (N.bytes v.old.nor.now) marks.now → IfOk result (AreUses v.old.geometry (N.bytes v.old.nor.now) block) }
+    ensures told { N.tells v.old.nor.now → MarksUses v.old.geometry (N.bytes v.old.nor.now) marks.now →
+        IfOk result (AreUses v.old.geometry (N.bytes v.old.nor.now) block) }
 {
     let g = v.geometry;
     let mut all = no_use();

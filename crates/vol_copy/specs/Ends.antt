@@ -29,7 +29,8 @@ alike_of gf g = gf.meta == g.meta
 module _ {M : Type 0} {nor : NorOf M} where
   -- A cut leaves a target that may follow the one before, and where the source tells its records, what a copy of these may leave.
   abbrev pub CutsCopy : (told : List File → Type 0) (alike : Bool) (old new : Volume M nor) → Type 0
-  CutsCopy told alike old new = Changes nor old.nor.now new.nor.now (λ was image. (g : Geometry) (slots : ℕ) (first : List File) → 0 < slots → IsAtRest g old (with_files slots first) →
+  CutsCopy told alike old new =
+      Changes nor old.nor.now new.nor.now (λ was image. (g : Geometry) (slots : ℕ) (first : List File) → 0 < slots → IsAtRest g old (with_files slots first) →
       IsSafe g was image × ((source : List File) → told source → IsUnder alike source first (table_of g image)))
 
   module _ (alike : Bool) (source first : List File) (g : Geometry) (slots : ℕ) (old new : Volume M nor) where
@@ -62,5 +63,7 @@ module _ {M : Type 0} {nor : NorOf M} where
 
   -- Of a target at rest whose descriptors are closed; and one that has all already is only read, where a device fails too.
   pub record EndsFrom (alike : Bool) (source : List File) (old new : Volume M nor) (result : Result Copied CopyErr) : Type 0 where
-    pub ends : (g : Geometry) (slots : ℕ) (first : List File) → 0 < slots → IsAtRest g old (with_files slots first) → Ends alike source first g slots old new result
-    pub idle : (g : Geometry) (slots : ℕ) (first : List File) → 0 < slots → IsAtRest g old (with_files slots first) → IsAllThere alike source first → OnlyReads nor old.nor.now new.nor.now
+    pub ends : (g : Geometry) (slots : ℕ) (first : List File) → 0 < slots → IsAtRest g old (with_files slots first) →
+        Ends alike source first g slots old new result
+    pub idle : (g : Geometry) (slots : ℕ) (first : List File) → 0 < slots → IsAtRest g old (with_files slots first) → IsAllThere alike source first →
+        OnlyReads nor old.nor.now new.nor.now

@@ -73,7 +73,8 @@ module _ {M : Type 0} {nor : NorOf M} where
 
   -- What calls do that lead from targets as A has it: a cut leaves an image that may follow, and what the copy may leave.
   abbrev pub CutsUnder : (A : Task → Volume M nor → Type 0) (old new : Volume M nor) → Type 0
-  CutsUnder A old new = Changes nor old.nor.now new.nor.now (λ was image. (t : Task) → A t old → IsSafe t.g was image × (t.known ≡ true → IsUnder t.alike t.source t.first (table_of t.g image)))
+  CutsUnder A old new = Changes nor old.nor.now new.nor.now
+      (λ was image. (t : Task) → A t old → IsSafe t.g was image × (t.known ≡ true → IsUnder t.alike t.source t.first (table_of t.g image)))
 
   -- they lead to targets as B has it
   abbrev pub Leads : (A B : Task → Volume M nor → Type 0) (old new : Volume M nor) → Type 0

@@ -47,7 +47,8 @@ pub record IsAllUpTo (after : ℕ) (t : Task) (files : List File) : Type 0 where
 -- The records up to an id have their copies, one more than up to another; its copy was made anew, or there.
 pub record IsTurned (after : ℕ) (turn : Turn) (t : Task) (files : List File) : Type 0 where
   pub up : IsUpTo turn.id t files
-  pub counts : (copied kept : ℕ) → IsCounted after copied kept t → IsCounted turn.id (copied + (if turn.is_new then 1 else 0)) (kept + (if turn.is_new then 0 else 1)) t
+  pub counts : (copied kept : ℕ) → IsCounted after copied kept t →
+      IsCounted turn.id (copied + (if turn.is_new then 1 else 0)) (kept + (if turn.is_new then 0 else 1)) t
 
 -- The records up to an id have their copies, and behind it there is none.
 pub record IsLast (after : ℕ) (t : Task) (files : List File) : Type 0 where
@@ -68,6 +69,7 @@ pub record IsThrough (c : Copied) (t : Task) (files : List File) : Type 0 where
 module _ {M : Type 0} {nor : NorOf M} where
   -- why a copy doesn't begin: the target's device fails, or its files have no room
   abbrev pub StopsFirst : (A : Task → Volume M nor → Type 0) (old new : Volume M nor) → CopyErr → Type 0
-  StopsFirst A old new (Full index pages) = (t : Task) → A t old → t.known ≡ true → (has_room t.g t.first ≡ false) × (Full index pages ≡ full_as t.g t.first) × A t new
+  StopsFirst A old new (Full index pages) = (t : Task) → A t old → t.known ≡ true →
+      (has_room t.g t.first ≡ false) × (Full index pages ≡ full_as t.g t.first) × A t new
   StopsFirst A old new ToFault = Unit {0}
   StopsFirst A old new why = (t : Task) → A t old → t.known ≡ true → ⊥

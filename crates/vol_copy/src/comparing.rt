@@ -68,7 +68,8 @@ fn same_bytes<N: Nor, M: Nor>(
     ensures from_cause { result ≡ Err CopyErr.FromFault → Rose (N.faults from.old.nor.now) (N.faults from.new.nor.now) }
     ensures to_cause { result ≡ Err CopyErr.ToFault → Rose (M.faults to.old.nor.now) (M.faults to.new.nor.now) }
     ensures differs { (d : Differs) → result ≡ Err (CopyErr.Damaged d) → d.wanted ≢ d.found }
-    ensures done { IfOk result (λ same. Looked (With N.NorState from.old (Works fd 8 (IsLooking stat.now 0))) (Works fd 8 (IsLooked stat.now same)) to.old to.new) }
+    ensures done { IfOk result
+        (λ same. Looked (With N.NorState from.old (Works fd 8 (IsLooking stat.now 0))) (Works fd 8 (IsLooked stat.now same)) to.old to.new) }
     ensures stops { IfErr result (LooksUntil (With N.NorState from.old (Works fd 8 (IsLooking stat.now 0))) to.old to.new) }
 {
     let (ours, theirs) = piece.split_at_mut(HALF as usize);

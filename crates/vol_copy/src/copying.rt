@@ -133,7 +133,8 @@ pub fn copy_all<N: Nor, M: Nor>(
     ensures to_cause { result ≡ Err CopyErr.ToFault → Rose (M.faults to.old.nor.now) (M.faults to.new.nor.now) }
     ensures differs { (d : Differs) → result ≡ Err (CopyErr.Damaged d) → d.wanted ≢ d.found }
     ensures cuts { CutsCopy (TellsFiles N.NorState from.old) (alike_of from.old.geometry to.old.geometry) to.old to.new }
-    ensures ends { (source : List File) → TellsFiles N.NorState from.old source → EndsFrom (alike_of from.old.geometry to.old.geometry) source to.old to.new result }
+    ensures ends { (source : List File) → TellsFiles N.NorState from.old source →
+        EndsFrom (alike_of from.old.geometry to.old.geometry) source to.old to.new result }
 {
     check_room(to)?;
     match first_working(from)? {

@@ -39,7 +39,8 @@ fn put_page<N: Nor, M: Nor>(
     ensures to_cause { result ≡ Err CopyErr.ToFault → Rose (M.faults to.old.nor.now) (M.faults to.new.nor.now) }
     ensures differs { (d : Differs) → result ≡ Err (CopyErr.Damaged d) → d.wanted ≢ d.found }
     ensures cuts { CutsUnder (With N.NorState from.old (Works fd 52 (IsFilling stat.now at))) to.old to.new }
-    ensures wrote { IfOk result (λ fits. Leads (With N.NorState from.old (Works fd 52 (IsFilling stat.now at))) (PageWent fd stat.now at (length piece.old) fits) to.old to.new) }
+    ensures wrote { IfOk result
+        (λ fits. Leads (With N.NorState from.old (Works fd 52 (IsFilling stat.now at))) (PageWent fd stat.now at (length piece.old) fits) to.old to.new) }
     ensures stops { IfErr result (StopsFrom (With N.NorState from.old (Works fd 52 (IsFilling stat.now at))) to.old to.new) }
 {
     read_of(from, stat.id, at, piece)?;
@@ -65,8 +66,10 @@ fn put_bytes<N: Nor, M: Nor>(
     ensures differs { (d : Differs) → result ≡ Err (CopyErr.Damaged d) → d.wanted ≢ d.found }
     ensures within { IfOk result (λ at. at ≤ stat.now.size) }
     ensures cuts { CutsUnder (With N.NorState from.old (Works fd 52 (IsFilling stat.now 0))) to.old to.new }
-    ensures all { result ≡ Ok stat.now.size → Leads (With N.NorState from.old (Works fd 52 (IsFilling stat.now 0))) (Works fd 52 (IsFilling stat.now stat.now.size)) to.old to.new }
-    ensures short { IfOk result (λ at. at < stat.now.size → Leads (With N.NorState from.old (Works fd 52 (IsFilling stat.now 0))) (LacksPage stat.now.size at) to.old to.new) }
+    ensures all { result ≡ Ok stat.now.size →
+        Leads (With N.NorState from.old (Works fd 52 (IsFilling stat.now 0))) (Works fd 52 (IsFilling stat.now stat.now.size)) to.old to.new }
+    ensures short { IfOk result
+        (λ at. at < stat.now.size → Leads (With N.NorState from.old (Works fd 52 (IsFilling stat.now 0))) (LacksPage stat.now.size at) to.old to.new) }
     ensures stops { IfErr result (StopsFrom (With N.NorState from.old (Works fd 52 (IsFilling stat.now 0))) to.old to.new) }
 {
     let page = to.geometry.page - 5;

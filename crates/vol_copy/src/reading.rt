@@ -42,8 +42,10 @@ pub(crate) fn read_of<N: Nor>(
     ensures same { IsSameReader from.old from.new }
     ensures cause { result ≡ Err CopyErr.FromFault → Rose (N.faults from.old.nor.now) (N.faults from.new.nor.now) }
     ensures only { IfErr result (λ why. (why ≡ CopyErr.FromFault) ⊎ (why ≡ CopyErr.Refused)) }
-    ensures told { (source : List File) (f : File) → TellsFiles N.NorState from.old source → file_of id source ≡ Some f → OnOk result (into.new ≡ bytes_at (length into.old) at f) }
-    ensures fails { (source : List File) (f : File) → TellsFiles N.NorState from.old source → file_of id source ≡ Some f → at + length into.old ≤ length f.bytes → IfErr result (λ why. why ≡ CopyErr.FromFault) }
+    ensures told { (source : List File) (f : File) → TellsFiles N.NorState from.old source → file_of id source ≡ Some f →
+        OnOk result (into.new ≡ bytes_at (length into.old) at f) }
+    ensures fails { (source : List File) (f : File) → TellsFiles N.NorState from.old source → file_of id source ≡ Some f →
+        at + length into.old ≤ length f.bytes → IfErr result (λ why. why ≡ CopyErr.FromFault) }
 {
     match from.read_at(id, at, into) {
         Ok(count) => {
@@ -72,7 +74,8 @@ pub(crate) fn first_working<N: Nor>(from: &mut Reader<'_, N>) -> Result<Option<u
     ensures same { IsSameReader from.old from.new }
     ensures cause { IfErr result (λ why. Rose (N.faults from.old.nor.now) (N.faults from.new.nor.now)) }
     ensures only { IfErr result (λ why. why ≡ CopyErr.FromFault) }
-    ensures told { (source : List File) → TellsFiles N.NorState from.old source → IfOk result (λ found. found ≡ position (λ f. same_text f.name working) source) }
+    ensures told { (source : List File) → TellsFiles N.NorState from.old source →
+        IfOk result (λ found. found ≡ position (λ f. same_text f.name working) source) }
 {
     let mut at = 0;
     let mut after = 0;

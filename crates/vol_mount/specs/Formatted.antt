@@ -11,7 +11,8 @@ use Rattle.image_model.specs.Tidy.{IsTidy, is_free_block, free_blocks}
 abbrev pub byte_in : Geometry → List ℕ → (block k : ℕ) → ℕ
 byte_in g image block k = slice_index image (block * g.block + k)
 
--- A block is blank where the last four bytes of its lookup pages are its right magic and an erase count of 0, each the lower byte first, and all its other bytes are 0xFF.
+-- A block is blank where the last four bytes of its lookup pages are its right magic and an erase count of 0, each the lower byte first,
+-- and all its other bytes are 0xFF.
 pub record IsBlank (g : Geometry) (block : ℕ) (image : List ℕ) : Type 0 where
   pub front : (k : ℕ) → k < 2 * (slots g - 2) → byte_in g image block k ≡ 255
   pub magic_low : byte_in g image block (2 * (slots g - 2)) ≡ right_magic g block % 256
@@ -31,7 +32,8 @@ pub record BlankTo (g : Geometry) (count : ℕ) (was now : List ℕ) : Type 0 wh
   pub blank : (block : ℕ) → block < count → IsBlank g block now
   pub behind : (k : ℕ) → count * g.block ≤ k → slice_index now k ≡ slice_index was k
 
--- An empty volume: every block is blank, and so free with an erase count of 0, the table is empty, the image is tidy and has its reserve, and what the device has behind the volume is as it was.
+-- An empty volume: every block is blank, and so free with an erase count of 0, the table is empty, the image is tidy and has its reserve,
+-- and what the device has behind the volume is as it was.
 pub record IsFormatted (g : Geometry) (was now : List ℕ) : Type 0 where
   pub size : length now ≡ length was
   pub blank : (block : ℕ) → block < g.blocks → IsBlank g block now

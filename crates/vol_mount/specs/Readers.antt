@@ -4,7 +4,8 @@ use Rattle.nor_core.specs.declared.state.NorState.{Ghosts as NorOf}
 use Rattle.page_cache.specs.Kept.{FewReads}
 use Rattle.vol_mount.specs.declared.reader.Reader.{Reader}
 
--- the same geometry, over the same device and lent memory; a survey that was done stays known; each read of the device has got one more page held, where there is a frame for each page and no fault was counted
+-- the same geometry, over the same device and lent memory; a survey that was done stays known; each read of the device has got one more page held,
+-- where there is a frame for each page and no fault was counted
 pub record IsSameReader {N : Type 0} {nor : NorOf N} (old new : Reader N nor) : Type 0 where
   pub geometry : new.geometry ≡ old.geometry
   pub nor_name : new.nor.ghost_name ≡ old.nor.ghost_name

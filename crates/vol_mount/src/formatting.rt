@@ -76,7 +76,8 @@ pub fn format<N: Nor>(g: &Geometry, nor: &mut N) -> Result<(), FormatErr>
     ensures writable { IfSome (write_refusal g.now) (λ why. result ≡ Err (FormatErr.Wrong why)) }
     ensures chip { write_refusal g.now ≡ None → is_wrong_chip g.now (N.unit nor.old) (N.size nor.old) ≡ true → result ≡ Err (FormatErr.Wrong GeoErr.WrongChip) }
     ensures refused { (why : GeoErr) → result ≡ Err (FormatErr.Wrong why) → nor.new ≡ nor.old }
-    ensures only { write_refusal g.now ≡ None → is_wrong_chip g.now (N.unit nor.old) (N.size nor.old) ≡ false → IfErr result (λ why. why ≡ FormatErr.DeviceFault) }
+    ensures only { write_refusal g.now ≡ None → is_wrong_chip g.now (N.unit nor.old) (N.size nor.old) ≡ false →
+        IfErr result (λ why. why ≡ FormatErr.DeviceFault) }
     ensures cause { result ≡ Err FormatErr.DeviceFault → Rose (N.faults nor.old) (N.faults nor.new) }
     ensures changes { Changes N.NorState nor.old nor.new (SameOutside 0 (g.now.blocks * g.now.block)) }
     ensures done { N.tells nor.old → OnOk result (IsFormatted g.now (N.bytes nor.old) (N.bytes nor.new)) }

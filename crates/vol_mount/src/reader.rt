@@ -120,7 +120,8 @@ impl<'b, N: Nor> Reader<'b, N> {
         ensures only { IfErr result (λ why. why ≡ FsErr.DeviceFault) }
         ensures above { IfOk result (λ found. IfSome found (λ stat. after < stat.id)) }
         ensures looks { OnlyReads N.NorState self.old.nor.now self.new.nor.now }
-        ensures told { N.tells self.old.nor.now → IfOk result (λ found. found ≡ option_map stat_of (file_above after (table_of self.old.geometry (N.bytes self.old.nor.now)))) }
+        ensures told { N.tells self.old.nor.now →
+            IfOk result (λ found. found ≡ option_map stat_of (file_above after (table_of self.old.geometry (N.bytes self.old.nor.now)))) }
         ensures known { OnOk result (self.new.known ≡ true) }
         ensures same { IsSameReader self.old self.new }
     {

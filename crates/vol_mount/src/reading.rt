@@ -27,7 +27,8 @@ pub fn next_record<N: Nor>(
     ensures cause { OnErr result (Rose (N.faults v.old.nor.now) (N.faults v.new.nor.now)) }
     ensures looks { OnlyLooks v.old v.new }
     ensures above { IfOk result (λ found. IfSome found (λ stat. after < stat.id)) }
-    ensures told { N.tells v.old.nor.now → IfOk result (λ found. found ≡ option_map stat_of (file_above after (table_of v.old.geometry (N.bytes v.old.nor.now)))) }
+    ensures told { N.tells v.old.nor.now →
+        IfOk result (λ found. found ≡ option_map stat_of (file_above after (table_of v.old.geometry (N.bytes v.old.nor.now)))) }
 {
     match next_file(v, marks, after)? {
         Some((id, header)) => stat_at(v, id, header),

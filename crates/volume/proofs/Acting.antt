@@ -23,7 +23,7 @@ use Rattle.fd_table.specs.Slots.{descriptors}
 use Rattle.file_calls.specs.States.{IsImageOf}
 use Rattle.file_calls.specs.Replies.{is_write}
 use Rattle.file_calls.specs.Goes.{Goes}
-use Rattle.volume.specs.Acts.{Acts}
+use Rattle.volume.specs.Acts.{ActsQuietly}
 
 -- ---- the flat table
 
@@ -95,24 +95,27 @@ module _ {D : Type 0} {nor : NorOf D} {g : Geometry} {old new : D} {slots last :
   -- a call that leaves nothing waiting
   pub acts_settled : {run : Option Run} → run ≡ None → (ask : Ask) (reply : Answer) (wrote : Bool) →
       ((s : State) → IsImageOf nor g old slots s → reply ≡ (answer g (has_spare g (nor.bytes old)) s ask).answer → EndsSettled g (has_spare g (nor.bytes old)) s ask) →
-      Goes nor g ask old new slots last wrote reply → Acts nor g ask old new slots last run wrote reply
-  acts_settled none ask reply wrote ends goes = subst (λ (r : Option Run). Acts nor g ask old new slots last r wrote reply) (sym none) (record {
-    does = goes.does;
-    answers = λ s here no_fault whole. let r = goes.answers s here no_fault whole in record {
-      reply_is = r.reply_is;
-      stands = subst (λ (m : Moment). Stands nor g new (record { slots = descriptors last; run = None }) m) (sym (ends s here r.reply_is))
-          (settled_stands (answer g (has_spare g (nor.bytes old)) s ask).next r.holds);
-      reserve = r.reserve;
-      reads = r.reads;
+      Goes nor g ask old new slots last wrote reply → ActsQuietly nor g ask old new slots last run wrote reply
+  acts_settled none ask reply wrote ends goes = subst (λ (r : Option Run). ActsQuietly nor g ask old new slots last r wrote reply) (sym none) (record {
+    quiet = goes.quiet;
+    acts = record {
+      does = goes.does;
+      answers = λ s here no_fault whole. let r = goes.answers s here no_fault whole in record {
+        reply_is = r.reply_is;
+        stands = subst (λ (m : Moment). Stands nor g new (record { slots = descriptors last; run = None }) m) (sym (ends s here r.reply_is))
+            (settled_stands (answer g (has_spare g (nor.bytes old)) s ask).next r.holds);
+        reserve = r.reserve;
+        reads = r.reads;
+      };
+      empty = λ refusal. refl;
+      waits = λ some. absurd (let no : false ≡ true = some in cc);
     };
-    empty = λ refusal. refl;
-    waits = λ some. absurd (let no : false ≡ true = some in cc);
   })
 
   -- one that is no write
-  pub acts_by : {run : Option Run} {ask : Ask} {reply : Answer} {wrote : Bool} → run ≡ None → Goes nor g ask old new slots last wrote reply → is_write ask ≡ false → Acts nor g ask old new slots last run wrote reply
+  pub acts_by : {run : Option Run} {ask : Ask} {reply : Answer} {wrote : Bool} → run ≡ None → Goes nor g ask old new slots last wrote reply → is_write ask ≡ false → ActsQuietly nor g ask old new slots last run wrote reply
   acts_by {ask = ask} {reply = reply} {wrote = wrote} none goes other = acts_settled none ask reply wrote (λ s here is. other_ends g (has_spare g (nor.bytes old)) s ask other) goes
 
   -- one that is refused
-  pub acts_refused : {run : Option Run} → run ≡ None → (ask : Ask) (reply : Answer) (wrote : Bool) → leaves_window ask ≡ false → is_refusal reply ≡ true → Goes nor g ask old new slots last wrote reply → Acts nor g ask old new slots last run wrote reply
+  pub acts_refused : {run : Option Run} → run ≡ None → (ask : Ask) (reply : Answer) (wrote : Bool) → leaves_window ask ≡ false → is_refusal reply ≡ true → Goes nor g ask old new slots last wrote reply → ActsQuietly nor g ask old new slots last run wrote reply
   acts_refused none ask reply wrote leaves refusal goes = acts_settled none ask reply wrote (λ s here is. refused_ends g (has_spare g (nor.bytes old)) s ask leaves (sym (ap is_refusal is) ∙ refusal)) goes

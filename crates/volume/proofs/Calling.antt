@@ -10,7 +10,7 @@ use Rattle.nor_core.specs.Count.{Rose}
 use Rattle.nor_core.specs.Device.{Changes, OnlyReads}
 use Rattle.nor_core.proofs.Cuts.{wider, go_on, unchanged, reads_none}
 use Rattle.table_model.specs.declared.error.FsErr.{FsErr}
-use Rattle.table_model.specs.declared.error.FsErr.TheVariants.{Failed as FsFailed, BadName, NameTooLong, Tight, DeviceFault, Damaged}
+use Rattle.table_model.specs.declared.error.FsErr.TheVariants.{Failed as FsFailed, BadName, NameTooLong, BadFlags, BadDescriptor, OutOfDescriptors, NotReadable, NotWritable, Tight, DeviceFault, Damaged}
 use Rattle.table_model.specs.Table.{File, State}
 use Rattle.table_model.specs.Reply.{Answer, Tells as Number, Gives, Refuses}
 use Rattle.table_model.specs.declared.call.Call.{Call}
@@ -29,7 +29,8 @@ use Rattle.call_model.specs.Calls.{Stands, Publishes, Answers}
 use Rattle.call_model.proofs.Safety.{holds_safe, holds_then, holds_itself, safe_as, safe_of_tidy}
 use Rattle.call_model.proofs.Parts.{among-left, among-right}
 use Rattle.call_model.proofs.After.{tell-stays, after-settled, settled-among, fills-as_writes}
-use Rattle.trim_laws.specs.Trim.{Trims}
+use Rattle.trim_laws.specs.Upkeep.{Upkeep}
+use Rattle.trim_laws.proofs.Wears.{upkeep_none, upkeep_on}
 use Rattle.volume.specs.declared.stage.Stage.{Stage}
 use Rattle.volume.specs.declared.stage.Stage.TheVariants.{Checked, Failed}
 use Rattle.file_calls.specs.declared.told.Told.{Told}
@@ -38,12 +39,15 @@ use Rattle.volume.specs.declared.volume.Volume.{Volume}
 use Rattle.volume.specs.Opening.{is_open, is_mounted, is_failed, stage_after}
 use Rattle.volume.specs.Stages.{takes_calls, has_failed}
 use Rattle.volume.specs.Same.{IsSameVolume}
-use Rattle.file_calls.specs.Replies.{shown_by, reply_of, may_answer, is_of_name, is_of_descriptor, is_calm}
+use Rattle.fd_table.specs.declared.slot.FdSlot.{FdSlot}
+use Rattle.fd_table.specs.Slots.{descriptors}
+use Rattle.file_calls.specs.Replies.{shown_by, reply_of, may_answer, is_of_slots, is_calm}
+use Rattle.file_calls.specs.Slots.{slots_fault}
 use Rattle.volume.specs.Replies.{breaks, may_settle}
 use Rattle.file_calls.specs.Moves.{Moves}
 use Rattle.file_calls.specs.States.{IsImageOf}
 use Rattle.volume.specs.Holds.{memory, Holds}
-use Rattle.file_calls.specs.Goes.{CallCut, IsDoable, IsCorner, StopsShort, IsCollected}
+use Rattle.file_calls.specs.Goes.{CallCut, IsDoable, IsCorner, StopsShort, IsCollected, StandsOn}
 use Rattle.volume.specs.Acts.{Acts}
 use Rattle.volume.specs.Unchanged.{Unchanged}
 use Rattle.volume.specs.Settles.{Settles}
@@ -52,7 +56,9 @@ use Rattle.ix_map.specs.Maps.{no_map}
 use Rattle.volume.specs.Mapping.{RefillsTo}
 use Rattle.volume.specs.Calls.{HasRun, HasNone, Calls}
 use Rattle.volume.proofs.KnownMaps.{keeps_none, keeps_broken, keeps_refilled}
-use Rattle.file_calls.proofs.Going.{refuses_same}
+use Rattle.file_calls.specs.Cleans.{index_taken, CleansFor}
+use Rattle.file_calls.proofs.CleansBy.{cleans_reads}
+use Rattle.file_calls.proofs.Going.{refuses_same, room_stays}
 use Rattle.volume.proofs.Staying.{same_then, same_none}
 use Rattle.volume.proofs.Acting.{goes_on_none}
 
@@ -103,16 +109,16 @@ broken_refusal : (reply : Answer) → breaks reply ≡ true → is_refusal reply
 broken_refusal (Refuses why) e = refl
 broken_refusal _ e = absurd (let no : false ≡ true = e in cc)
 
--- bytes that wait aren't kept off the chip by a name
-name_settles : (why : FsErr) → is_of_name why ≡ true → may_settle (Refuses why) ≡ true → ⊥
-name_settles BadName name e = let no : false ≡ true = e in cc
-name_settles NameTooLong name e = let no : false ≡ true = e in cc
-name_settles _ name e = let no : false ≡ true = name in cc
-
-name_calm : (why : FsErr) → is_of_name why ≡ true → is_of_descriptor why ≡ true → ⊥
-name_calm BadName name e = let no : false ≡ true = e in cc
-name_calm NameTooLong name e = let no : false ≡ true = e in cc
-name_calm _ name e = let no : false ≡ true = name in cc
+-- bytes that wait aren't kept off the chip by a name, by flags or by a descriptor
+slots_settle : (why : FsErr) → is_of_slots why ≡ true → may_settle (Refuses why) ≡ true → ⊥
+slots_settle BadName of e = let no : false ≡ true = e in cc
+slots_settle NameTooLong of e = let no : false ≡ true = e in cc
+slots_settle BadFlags of e = let no : false ≡ true = e in cc
+slots_settle BadDescriptor of e = let no : false ≡ true = e in cc
+slots_settle OutOfDescriptors of e = let no : false ≡ true = e in cc
+slots_settle NotReadable of e = let no : false ≡ true = e in cc
+slots_settle NotWritable of e = let no : false ≡ true = e in cc
+slots_settle _ of e = let no : false ≡ true = of in cc
 
 -- what is told of no bytes is told whatever bytes were lent
 shown_apart : (told : Told) (into : List ℕ) → ((bytes : List ℕ) → shown_by told [] ≡ Gives bytes → ⊥) → shown_by told [] ≡ shown_by told into
@@ -217,8 +223,12 @@ module _ {N : Type 0} {nor : NorOf N} where
       unchanged v.nor.now (λ was image. (m : Moment) → Publishes v.geometry (memory v) m ask was image)
       (λ tells m at. (safe_as v.geometry a a (holds_itself v.geometry a) at.tidy, settled_first (table_of v.geometry a) m (steps v.geometry (has_spare v.geometry a) m.state ask) at.table))
 
-  pub trims_none : (v : Volume N nor) → Changes nor v.nor.now v.nor.now (λ was image. (m : Moment) → IsAt v.geometry was (memory v) m → Trims v.geometry was image)
-  trims_none v = unchanged v.nor.now (λ was image. (m : Moment) → IsAt v.geometry was (memory v) m → Trims v.geometry was image) (λ tells m at trim. trim)
+  pub upkeep_nothing : (v : Volume N nor) → Changes nor v.nor.now v.nor.now (λ was image. (m : Moment) → IsAt v.geometry was (memory v) m → Upkeep v.geometry was image)
+  upkeep_nothing v = unchanged v.nor.now (λ was image. (m : Moment) → IsAt v.geometry was (memory v) m → Upkeep v.geometry was image) (λ tells m at. upkeep_none v.geometry (nor.bytes v.nor.now))
+
+  -- where settling tells that nothing waited the map is as before
+  pub nothing_had : {old mid : Volume N nor} (had : Bool) → Settles old mid (Ok had) → had ≡ false → old.map ≡ mid.map
+  nothing_had {old} {mid} had settles idle = ap (λ (v : Volume N nor). v.map) (sym (settles.idle (none_is (memory old).run (sym settles.done.2 ∙ idle))).1)
 
   -- ---- a volume that takes no calls
 
@@ -228,7 +238,8 @@ module _ {N : Type 0} {nor : NorOf N} where
       record {
         same = same_none v;
         cuts = cuts_none ask v;
-        trims = trims_none v;
+        upkeep = upkeep_nothing v;
+        counted = λ m takes. absurd (never takes);
         answers = λ m takes. absurd (never takes);
         refused = λ m takes. absurd (never takes);
         collects = λ m takes. absurd (never takes);
@@ -243,14 +254,15 @@ module _ {N : Type 0} {nor : NorOf N} where
         undamaged = λ m here d e. cc;
         among = λ takes. absurd (never takes);
         brief = λ bytes e. absurd (cc);
-        named = λ takes. absurd (never takes);
-        names = λ takes. absurd (never takes);
+        numbered = λ takes. absurd (never takes);
+        shown = λ takes. absurd (never takes);
         failed = λ e. absurd (let no : false ≡ true = e in cc);
         stays = inl refl;
         asked = λ takes. absurd (never takes);
         stops = λ m takes. absurd (never takes);
         looks = λ look none. (reads_none v.nor.now, refl);
         keeps = λ keeps. refl;
+        cleans = λ m takes. absurd (never takes);
         still = λ refusal. refl;
         begins = λ none run. (reads_none v.nor.now, refl);
         empty = λ refusal none. none;
@@ -268,7 +280,8 @@ module _ {N : Type 0} {nor : NorOf N} where
       record {
         same = settles.same;
         cuts = wider settles.cuts (λ tells image cut m at. let c = cut m at in (c.0, among_more (table_of old.geometry image) m (steps old.geometry (has_spare old.geometry (nor.bytes old.nor.now)) m.state ask) c.1));
-        trims = settles.trims;
+        upkeep = settles.upkeep;
+        counted = λ m takes here no_fault. absurd (no_fault (fault m here));
         answers = λ m takes here no_fault whole. absurd (no_fault (fault m here));
         refused = λ m takes none. absurd (some none);
         collects = λ m takes none. absurd (some none);
@@ -283,14 +296,15 @@ module _ {N : Type 0} {nor : NorOf N} where
         undamaged = λ m here d e. let no : Refuses (Damaged d) ≡ Refuses DeviceFault = sym e ∙ fault m here in cc;
         among = λ takes. inr (run, settles.stops.among);
         brief = λ bytes e. absurd (cc);
-        named = λ takes w e. inr (run, settles.stops.among);
-        names = λ takes w name e. absurd (name_settles w name (subst (λ (x : FsErr). may_settle (Refuses x) ≡ true) (refuses_same why w e) settles.stops.among));
+        numbered = λ takes w e. inr (run, settles.stops.among);
+        shown = λ takes w of e. absurd (slots_settle w of (subst (λ (x : FsErr). may_settle (Refuses x) ≡ true) (refuses_same why w e) settles.stops.among));
         failed = settles.stops.failed;
         stays = ⊎_elim (λ (stood : new.stage ≡ old.stage). inl stood) (λ (broke : (has_failed new ≡ true) × (breaks (Refuses why) ≡ true)). inr (takes, broke.0, broke.1)) settles.stops.stays;
         asked = λ takes failed. inl (settles.stops.asked takes failed);
         stops = λ m takes stopped here. inl run;
         looks = λ look none. absurd (some none);
         keeps = λ keeps. settles.slots;
+        cleans = λ m takes none. absurd (some none);
         still = λ refusal. settles.slots;
         begins = λ none run. absurd (some none);
         empty = λ refusal none. absurd (some none);
@@ -338,9 +352,14 @@ module _ {N : Type 0} {nor : NorOf N} where
         acts.does.cuts
         (λ tells image before after m at. let here : Holds old m = record { tells = tells; image = at } in cut_by m here image (after m.state (image_mid m here)))
 
-    trims_by : Changes nor old.nor.now new.nor.now (λ was image. (m : Moment) → IsAt old.geometry was (memory old) m → Trims old.geometry was image)
-    trims_by = go_on settles.trims acts.does.trims
-        (λ tells image before after m at trim. let here : Holds old m = record { tells = tells; image = at } in after m.state (image_mid m here) (before m at trim))
+    upkeep_by : Changes nor old.nor.now new.nor.now (λ was image. (m : Moment) → IsAt old.geometry was (memory old) m → Upkeep old.geometry was image)
+    upkeep_by = go_on settles.upkeep acts.does.upkeep
+        (λ tells image before after m at.
+        let here : Holds old m = record { tells = tells; image = at } in
+        upkeep_on old.geometry _ _ _ (image_mid m here).tidy.magic (before m at) (after m.state (image_mid m here)))
+
+    counts : StandsOn nor old.geometry mid.nor.now mid.slots.now reply mid.counted new.counted
+    counts = subst (λ (g : Geometry). StandsOn nor g mid.nor.now mid.slots.now reply mid.counted new.counted) settles.same.geometry did.counted
 
     -- what the flat table does once all is settled it does before
     does_before : (m : Moment) → Holds old m → IsDoable old.geometry (nor.bytes mid.nor.now) m.state ask → IsDoable old.geometry (nor.bytes old.nor.now) m.state ask
@@ -377,6 +396,10 @@ module _ {N : Type 0} {nor : NorOf N} where
           holds = holds_then g (nor.bytes old.nor.now) (nor.bytes mid.nor.now) (nor.bytes new.nor.now) (stood m here).1 (record { sound = λ magics. (acts.does.cuts.now image.tells m.state image).sound; reserve = r.reserve });
         }
 
+    -- settling leaves what the descriptors show
+    fault_of : {slots last : List FdSlot} (why : FsErr) → slots ≡ last → slots_fault old.geometry (descriptors slots) ask ≡ Some why → slots_fault old.geometry (descriptors last) ask ≡ Some why
+    fault_of why same e = subst (λ (l : List FdSlot). slots_fault old.geometry (descriptors l) ask ≡ Some why) same e
+
     -- ---- the stage
 
     checked : old.stage ≡ Checked
@@ -402,6 +425,12 @@ module _ {N : Type 0} {nor : NorOf N} where
 
     untouched : HasNone old → did.wrote ≡ false → is_refusal reply ≡ true → Unchanged old new
     untouched none unwritten refusal = record { reads = only_reads none unwritten; slots = acts.does.still refusal ∙ settles.slots; run = acts.empty refusal ∙ sym none; stage = stage_stays (no_run none) unwritten }
+
+    -- so where its arguments or the descriptors refuse it, nothing is asked
+    quiet_by : HasNone old → (why : FsErr) → slots_fault old.geometry (descriptors old.slots.now) ask ≡ Some why → new.nor.now ≡ old.nor.now
+    quiet_by none why e =
+        let idle : mid ≡ old = (settles.idle none).1 in
+        did.quiet (no_run none) why (subst (λ (v : Volume N nor). slots_fault v.geometry (descriptors v.slots.now) ask ≡ Some why) (sym idle) e) ∙ ap (λ (v : Volume N nor). v.nor.now) idle
 
     -- a call that asked for a program or an erase is one that the flat table does
     doable : (m : Moment) → Holds old m → did.wrote ≡ true → IsDoable old.geometry (nor.bytes old.nor.now) m.state ask
@@ -447,7 +476,8 @@ module _ {N : Type 0} {nor : NorOf N} where
     calls_by = record {
       same = same_then settles.same same;
       cuts = cuts_by;
-      trims = trims_by;
+      upkeep = upkeep_by;
+      counted = λ m takes here no_fault before. counts m.state (image_mid m here) no_fault (settles.counted m here before);
       answers = λ m takes here no_fault whole. answered_by m here no_fault whole;
       refused = λ m takes none here no_fault whole refusal. refused_by m none here no_fault whole refusal;
       collects = λ m takes none here is. subst (λ (v : Volume N nor). IsCollected old.geometry reply (nor.bytes v.nor.now) (nor.bytes new.nor.now)) (settles.idle none).1 (acts.does.collects m.state (image_mid m here) is);
@@ -467,8 +497,8 @@ module _ {N : Type 0} {nor : NorOf N} where
       undamaged = λ m here. acts.does.undamaged m.state (image_mid m here);
       among = λ takes. inl acts.does.among;
       brief = acts.does.brief;
-      named = λ takes why e. let w = acts.does.named.refused why e in inl (w.0, λ none. untouched none w.1 (ap is_refusal w.0));
-      names = λ takes why name e. acts.does.named.only why name e;
+      numbered = λ takes why e. let w = acts.does.numbered.refused why (fault_of why (sym settles.slots) e) in inl (w.0, λ none. (untouched none w.1 (ap is_refusal w.0), quiet_by none why e));
+      shown = λ takes why of e. fault_of why settles.slots (acts.does.numbered.only why of e);
       failed = failed_by;
       stays = ⊎_elim
           (λ (stood : (new.stage ≡ old.stage) × ((had || did.wrote) ≡ true → breaks reply ≡ true → ⊥)). inl stood.0)
@@ -478,6 +508,7 @@ module _ {N : Type 0} {nor : NorOf N} where
       stops = λ m takes stopped here. stopped_by m stopped here;
       looks = λ look none. let unwritten = acts.does.looks look in (only_reads none unwritten, stage_stays (no_run none) unwritten);
       keeps = λ keeps. acts.does.keeps keeps ∙ settles.slots;
+      cleans = λ m takes none here write other. subst (λ (v : Volume N nor). CleansFor nor old.geometry (index_taken ask) 0 v.nor.now new.nor.now (reply ≡ Refuses DeviceFault)) (settles.idle none).1 (acts.does.cleans m.state (image_mid m here) write other);
       still = λ refusal. acts.does.still refusal ∙ settles.slots;
       begins = λ none run. let unwritten = acts.waits run in (only_reads none unwritten, stage_stays (no_run none) unwritten);
       empty = λ refusal none. acts.empty refusal;
@@ -493,7 +524,8 @@ module _ {N : Type 0} {nor : NorOf N} where
       record {
         same = same_none v;
         cuts = cuts_none (Tells fd) v;
-        trims = trims_none v;
+        upkeep = upkeep_nothing v;
+        counted = λ m takes here no_fault before. before;
         answers = λ m takes here no_fault whole. record {
           reply_is = sym (ap (λ (o : Outcome). o.answer) (moves.answers v.geometry (has_spare v.geometry a) m.state here.image.slots));
           stands = subst (λ (j : Moment). Stands nor v.geometry v.nor.now (memory v) j) (sym (tell-stays v.geometry (has_spare v.geometry a) m fd)) here;
@@ -512,14 +544,15 @@ module _ {N : Type 0} {nor : NorOf N} where
         undamaged = λ m here d e. let no : false ≡ true = calm (Refuses (Damaged d)) e in cc;
         among = λ takes. inl moves.among;
         brief = λ bytes e. absurd (let no : false ≡ true = calm (Gives bytes) e in cc);
-        named = λ takes why e. absurd (cc);
-        names = λ takes why name e. absurd (name_calm why name (calm (Refuses why) e));
+        numbered = λ takes why e. let w = (moves.numbered v.geometry).refused why e in inl (w.0, λ none. (unchanged_same v, refl));
+        shown = λ takes why of e. (moves.numbered v.geometry).only why of e;
         failed = λ broke. inr (unchanged_same v);
         stays = inl refl;
         asked = λ takes failed. absurd (whole_still v.stage v.stage takes refl failed);
         stops = λ m takes stopped. absurd (let no : true ≡ false = sym takes ∙ stopped in cc);
         looks = λ look none. (reads_none v.nor.now, refl);
         keeps = λ keeps. refl;
+        cleans = λ m takes none here write other. cleans_reads (room_stays v.geometry a here.image.tidy) (reads_none v.nor.now);
         still = λ refusal. refl;
         begins = λ none run. (reads_none v.nor.now, refl);
         empty = λ refusal none. none;
@@ -544,7 +577,8 @@ module _ {N : Type 0} {nor : NorOf N} where
         same = calls.same;
         cuts = wider calls.cuts (λ tells image cut m at. let c = cut m at in
             (c.0, subst (λ (more : List (List File)). IsAmong (table_of g image) (from_settled m more)) (sym (fills-as_writes g spare m fd count byte).steps_are) c.1));
-        trims = calls.trims;
+        upkeep = calls.upkeep;
+        counted = calls.counted;
         answers = λ m takes here no_fault short.
             let f = fills-as_writes g spare m fd count byte in
             let a = calls.answers m takes here no_fault (whole m.state) in
@@ -569,8 +603,8 @@ module _ {N : Type 0} {nor : NorOf N} where
             (λ (stopped : HasRun old × (may_settle reply ≡ true)). inr stopped)
             (calls.among takes);
         brief = λ bytes e. let given = calls.brief bytes e in absurd (let no = given.reads in cc);
-        named = calls.named;
-        names = calls.names;
+        numbered = calls.numbered;
+        shown = calls.shown;
         failed = calls.failed;
         stays = calls.stays;
         asked = calls.asked;
@@ -588,6 +622,7 @@ module _ {N : Type 0} {nor : NorOf N} where
             (calls.stops m takes stopped here);
         looks = calls.looks;
         keeps = calls.keeps;
+        cleans = λ m takes none here write. absurd (let no : true ≡ false = write in cc);
         still = calls.still;
         begins = calls.begins;
         empty = calls.empty;

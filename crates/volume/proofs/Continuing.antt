@@ -37,7 +37,8 @@ use Rattle.call_model.proofs.Parts.{written_on, put_twice}
 use Rattle.call_model.proofs.Writing.{write-is_done, continues-accepted}
 use Rattle.call_model.proofs.Waiting.{on-moment, wait_goes_on}
 use Rattle.call_model.proofs.Empty.{empty-is_done}
-use Rattle.trim_laws.specs.Trim.{Trims}
+use Rattle.trim_laws.specs.Upkeep.{Upkeep}
+use Rattle.trim_laws.proofs.Wears.{upkeep_none}
 use Rattle.volume.specs.declared.volume.Volume.{Volume}
 use Rattle.fd_table.specs.declared.slot.FdSlot.{FdSlot}
 use Rattle.fd_table.specs.Slots.{descriptors, held, opened}
@@ -50,6 +51,8 @@ use Rattle.volume.specs.Extends.{GoesOnAt}
 use Rattle.volume.specs.Replies.{breaks}
 use Rattle.volume.proofs.KnownMaps.{keeps_same}
 use Rattle.volume.specs.Calls.{HasRun, HasNone, Calls}
+use Rattle.file_calls.specs.Slots.{slots_fault}
+use Rattle.file_calls.proofs.Numbered.{write_fine}
 use Rattle.file_calls.proofs.Going.{table_names, is_first}
 use Rattle.volume.proofs.Acting.{goes_on_none}
 use Rattle.volume.proofs.Staying.{same_none}
@@ -285,17 +288,18 @@ module _ {N : Type 0} {nor : NorOf N} where
     few_held = let most = v.geometry.valid.page_most in omega (arith, few_on, most)
 
   -- What a write does that asks nothing of the device, where bytes wait.
-  calls_on : {old new : Volume N nor} (fd : ℕ) (bytes : List ℕ) (n : ℕ) → IsSameVolume old new → new.nor.now ≡ old.nor.now → new.stage ≡ old.stage → length new.numbers.now ≡ length old.numbers.now → new.map ≡ old.map → takes_calls old ≡ true → HasRun old → n ≡ length bytes →
+  calls_on : {old new : Volume N nor} (fd : ℕ) (bytes : List ℕ) (n : ℕ) → IsSameVolume old new → new.nor.now ≡ old.nor.now → new.stage ≡ old.stage → length new.numbers.now ≡ length old.numbers.now → new.map ≡ old.map → new.counted ≡ old.counted → takes_calls old ≡ true → HasRun old → slots_fault old.geometry (descriptors old.slots.now) (Writes fd bytes) ≡ None → n ≡ length bytes →
       ((m : Moment) → Holds old m → Answers nor old.geometry old.nor.now old.nor.now (memory_of new) m (Writes fd bytes) (Number n)) → Calls (Writes fd bytes) old new (Number n)
-  calls_on {old} {new} fd bytes n same device stage room map takes waits long answers =
+  calls_on {old} {new} fd bytes n same device stage room map counted takes waits fine long answers =
       let busy : HasNone old → ⊥ = λ none. let no : true ≡ false = sym waits ∙ ap is_some none in cc in
       record {
         same = same;
         cuts = subst (λ (d : N). Changes nor old.nor.now d (λ was image. (m : Moment) → Publishes old.geometry (memory_of old) m (Writes fd bytes) was image)) (sym device)
             (unchanged old.nor.now (λ was image. (m : Moment) → Publishes old.geometry (memory_of old) m (Writes fd bytes) was image) (λ tells m at.
             (safe_as old.geometry (nor.bytes old.nor.now) (nor.bytes old.nor.now) (holds_itself old.geometry (nor.bytes old.nor.now)) at.tidy, is_first (table_of old.geometry (nor.bytes old.nor.now)) m.settled (m.waiting ++ steps old.geometry (has_spare old.geometry (nor.bytes old.nor.now)) m.state (Writes fd bytes)) at.table)));
-        trims = subst (λ (d : N). Changes nor old.nor.now d (λ was image. (m : Moment) → IsAt old.geometry was (memory_of old) m → Trims old.geometry was image)) (sym device)
-            (unchanged old.nor.now (λ was image. (m : Moment) → IsAt old.geometry was (memory_of old) m → Trims old.geometry was image) (λ tells m at trim. trim));
+        upkeep = subst (λ (d : N). Changes nor old.nor.now d (λ was image. (m : Moment) → IsAt old.geometry was (memory_of old) m → Upkeep old.geometry was image)) (sym device)
+            (unchanged old.nor.now (λ was image. (m : Moment) → IsAt old.geometry was (memory_of old) m → Upkeep old.geometry was image) (λ tells m at. upkeep_none old.geometry (nor.bytes old.nor.now)));
+        counted = λ m takes here no_fault before. counted ∙ before;
         answers = λ m takes here no_fault whole. subst (λ (d : N). Answers nor old.geometry old.nor.now d (memory_of new) m (Writes fd bytes) (Number n)) (sym device) (answers m here);
         refused = λ m takes none. absurd (busy none);
         collects = λ m takes none. absurd (busy none);
@@ -310,14 +314,15 @@ module _ {N : Type 0} {nor : NorOf N} where
         undamaged = λ m here d e. cc;
         among = λ takes. inl (eq-eqb n (length bytes) long);
         brief = λ bytes e. absurd (cc);
-        named = λ takes why e. absurd (cc);
-        names = λ takes why name e. absurd (cc);
+        numbered = λ takes why e. absurd (let no : None ≡ Some why = sym fine ∙ e in cc);
+        shown = λ takes why of e. absurd (cc);
         failed = λ broke. absurd (let no : false ≡ true = broke in cc);
         stays = inl stage;
         asked = λ takes failed. absurd (whole_still old.stage new.stage takes stage failed);
         stops = λ m takes shut here. absurd (let no : true ≡ false = sym takes ∙ sym (ap is_open stage) ∙ shut in cc);
         looks = λ look. absurd (let no : true ≡ false = look in cc);
         keeps = λ keeps. absurd (let no : false ≡ true = keeps in cc);
+        cleans = λ m takes none. absurd (busy none);
         still = λ refusal. absurd (let no : false ≡ true = refusal in cc);
         begins = λ none. absurd (busy none);
         empty = λ refusal none. absurd (busy none);
@@ -326,13 +331,13 @@ module _ {N : Type 0} {nor : NorOf N} where
 
   -- a write of no byte that goes on
   pub extends_none : (v : Volume N nor) (fd : ℕ) (slot : FdSlot) (bytes : List ℕ) → takes_calls v ≡ true → GoesOnAt v fd (length bytes) slot → length bytes ≡ 0 → Calls (Writes fd bytes) v v (Number 0)
-  extends_none v fd slot bytes takes on none = calls_on fd bytes 0 (same_none v) refl refl refl refl takes (ap is_some on.waits) (sym none)
+  extends_none v fd slot bytes takes on none = calls_on fd bytes 0 (same_none v) refl refl refl refl refl takes (ap is_some on.waits) (write_fine (opened slot) on.opened on.writes) (sym none)
       (λ m here. answers_none v.geometry v.nor.now (memory_of v) m here on.run on.waits fd (opened slot) on.opened bytes on.goes_on on.place (no_bytes bytes none))
 
   -- and one of some
-  pub extends_some : {old new : Volume N nor} (fd : ℕ) (slot : FdSlot) (bytes : List ℕ) (to : ℕ) → takes_calls old ≡ true → GoesOnAt old fd (length bytes) slot → 0 < length bytes → IsSameVolume old new → new.nor.now ≡ old.nor.now → new.stage ≡ old.stage → length new.numbers.now ≡ length old.numbers.now → new.map ≡ old.map →
+  pub extends_some : {old new : Volume N nor} (fd : ℕ) (slot : FdSlot) (bytes : List ℕ) (to : ℕ) → takes_calls old ≡ true → GoesOnAt old fd (length bytes) slot → 0 < length bytes → IsSameVolume old new → new.nor.now ≡ old.nor.now → new.stage ≡ old.stage → length new.numbers.now ≡ length old.numbers.now → new.map ≡ old.map → new.counted ≡ old.counted →
       descriptors new.slots.now ≡ put_at (descriptors old.slots.now) fd (held (record slot { offset = to })) → to ≡ min (old.held.start + (old.held.taken + length bytes)) 4294967295 → (memory_of new).run ≡ option_map (with_more bytes) (memory_of old).run → Calls (Writes fd bytes) old new (Number (length bytes))
-  extends_some {old} {new} fd slot bytes to takes on some same device stage room map put moved pushed = calls_on fd bytes (length bytes) same device stage room map takes (ap is_some on.waits) refl (λ m here.
+  extends_some {old} {new} fd slot bytes to takes on some same device stage room map counted put moved pushed = calls_on fd bytes (length bytes) same device stage room map counted takes (ap is_some on.waits) (write_fine (opened slot) on.opened on.writes) refl (λ m here.
       let w = waiting old.geometry (nor.bytes old.nor.now) (memory_of old) m here.image on.run on.waits fd (opened slot) on.opened bytes on.goes_on on.place in
       let low = ends_low old.geometry m on.run w.0 bytes (follows_on on).within in
       let ends : to ≡ on.run.start + length on.run.bytes + length bytes = omega (arith, low, moved, (held_on on).start, (held_on on).taken) in
@@ -367,10 +372,27 @@ module _ {N : Type 0} {nor : NorOf N} (v : Volume N nor) (fd : ℕ) where
   pub closed_apart : open_at (descriptors v.slots.now) fd ≡ None → (bytes : List ℕ) → GoesOnNot v (Writes fd bytes)
   closed_apart none bytes m here = ap (λ (i : Option Incoming). continues v.geometry m.window i) (none_comes m.state fd bytes (ap (λ (l : List (Option Open)). open_at l fd) (sym here.image.slots) ∙ none)) ∙ goes_on_none v.geometry m.window
 
+  -- nor through one that may not write, since a run waits through one that may
+  pub unwritable_apart : (slot : FdSlot) → open_at (descriptors v.slots.now) fd ≡ Some (opened slot) → may_write slot.flags ≡ false → (bytes : List ℕ) → GoesOnNot v (Writes fd bytes)
+  unwritable_apart slot held never bytes m here =
+      let is = ap (λ (l : List (Option Open)). open_at l fd) (sym here.image.slots) ∙ held in
+      let on = here.image.opened fd (opened slot) is in
+      let at = write_place (opened slot) on.file in
+      continues-accepted v.geometry (nor.bytes v.nor.now) (memory_of v) m fd bytes (opened slot) on.file here.image is on.there
+      ∙ ⊎_elim
+      (λ (yes : accepted (body v.geometry) (memory_of v).run fd at (length bytes) ≡ true).
+      let w = run_of (body v.geometry) (memory_of v).run fd at (length bytes) yes in
+      let follows = (follows_by v.geometry (memory_of v).run w.0 fd at (length bytes) w.1 yes).0 in
+      let waits = (subst (RunWaits v.geometry (nor.bytes v.nor.now) m) w.1 here.image.run).0 in
+      let same = same_Some waits.descriptor (opened slot) (sym waits.opened ∙ ap (λ (n : ℕ). open_at m.state.slots n) follows.through ∙ is) in
+      absurd (let no : true ≡ false = sym waits.writes ∙ ap (λ (x : Open). may_write x.flags) same ∙ never in cc))
+      (λ (no : accepted (body v.geometry) (memory_of v).run fd at (length bytes) ≡ false). no)
+      (cases_Bool (accepted (body v.geometry) (memory_of v).run fd at (length bytes)))
+
   module _ (slot : FdSlot) (held : open_at (descriptors v.slots.now) fd ≡ Some (opened slot)) (at len : ℕ)
       (place : at ≡ (if appends slot.flags then start_of (memory_of v).run + length (bytes_of (memory_of v).run) else slot.offset)) where
-    pub goes_on_at : 0 < fd → fd ≤ length v.slots.now → slot.used ≡ true → accepted (body v.geometry) (memory_of v).run fd at len ≡ true → GoesOnAt v fd len slot
-    goes_on_at from within used on =
+    pub goes_on_at : 0 < fd → fd ≤ length v.slots.now → slot.used ≡ true → may_write slot.flags ≡ true → accepted (body v.geometry) (memory_of v).run fd at len ≡ true → GoesOnAt v fd len slot
+    goes_on_at from within used may on =
         let w = run_of (body v.geometry) (memory_of v).run fd at len on in
         let end = (follows_by v.geometry (memory_of v).run w.0 fd at len w.1 on).1 in
         record {
@@ -378,6 +400,7 @@ module _ {N : Type 0} {nor : NorOf N} (v : Volume N nor) (fd : ℕ) where
           within = within;
           used = used;
           opened = held;
+          writes = may;
           run = w.0;
           waits = w.1;
           goes_on = subst (λ (n : ℕ). accepted (body v.geometry) (memory_of v).run fd n len ≡ true) (sym end) on;

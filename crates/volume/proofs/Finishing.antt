@@ -22,6 +22,7 @@ use Rattle.block_gc.specs.Partings.{Parted}
 use Rattle.block_gc.proofs.Cleanings.{swept_none, none_of_none}
 use Rattle.flash_view.specs.declared.view.View.{View}
 use Rattle.flash_view.specs.Same.{IsSameView, OnlyLooks}
+use Rattle.trim_laws.specs.Wear.{Worn}
 use Rattle.flash_view.specs.Steps.{Stepped}
 use Rattle.vol_check.specs.declared.report.CheckErr.{CheckErr}
 use Rattle.vol_check.specs.declared.report.CheckErr.TheVariants.{Wrong, DeviceFault}
@@ -188,8 +189,8 @@ module _ (g : Geometry) (was mid now : List ℕ) (report : Report) (free : ℕ) 
       let there : HasReserve g p.parted = p.parting.reserve (omega (arith, reserve, more)) in
       subst (λ (c : List ℕ). HasReserve g c) (sym (p.quiet there)) there
 
-  done_after : CheckDone g was now (record report { free_blocks = free })
-  done_after = record {
+  done_after : Worn g mid now → CheckDone g was now (record report { free_blocks = free })
+  done_after worn = record {
     tidy = p.cleared.tidy;
     table = p.cleared.table ∙ p.parting.table ∙ checked.table;
     erased = checked.erased;
@@ -208,6 +209,7 @@ module _ (g : Geometry) (was mid now : List ℕ) (report : Report) (free : ℕ) 
       swept = p.cleared.swept;
       needed = p.cleared.needed;
       quiet = λ reserve. p.quiet (p.parting.reserve reserve);
+      worn = worn;
     };
   }
 
@@ -398,6 +400,8 @@ module _ {N : Type 0} {nor : NorOf N} (old mid : View N nor) (shares : Bool) (fi
         let now = nor.bytes new.nor.now in
         let ends : nor.tells old.nor.now → PartedCleared g left now free =
         λ tells. subst (λ (k : Geometry). PartedCleared k left now free) same.geometry (step.ends (changes.cuts.told tells) (judged tells)) in
+        let worn : nor.tells old.nor.now → Worn g left now =
+        λ tells. subst (λ (k : Geometry). Worn k left now) same.geometry (step.worn (changes.cuts.told tells) (judged tells)) in
         record {
           wrong = no_refusal (write_refusal old.geometry) _ fine;
           writable = λ none. tt;
@@ -408,7 +412,7 @@ module _ {N : Type 0} {nor : NorOf N} (old mid : View N nor) (shares : Bool) (fi
           mixed = λ tells. tt;
           refused = tt;
           spared = λ tells refused. never_refused old.geometry (nor.bytes old.nor.now) shares fine (fitting tells) refused;
-          done = λ tells. done_after g was left now report free (checked tells) (ends tells);
+          done = λ tells. done_after g was left now report free (checked tells) (ends tells) (worn tells);
           mends = λ tells. mends_after g was left now report free (checked tells) (ends tells) (is (changes.cuts.told tells));
           idle = reads_on quiet;
           apart = tt;

@@ -32,6 +32,15 @@ pub known_is : (m known : IxMap) (wrote : Bool) → known ≡ known_map m wrote 
 known_is m known true is = inr is
 known_is m known false is = inl is
 
+-- a device is as before where a map that is still known is to be read again: it isn't
+pub device_stays : {N : Type 0} {nor : NorOf N} {old new : Volume N nor} (was : IxMap) → old.map ≡ was → (old.map.used ≡ true → new ≡ old) → (was.used ≡ false → new ≡ old) → new.nor.now ≡ old.nor.now
+device_stays {N} {nor} {old} {new} was same used free =
+    let stays : new ≡ old = ⊎_elim
+    (λ (yes : was.used ≡ true). used (ap (λ (m : IxMap). m.used) same ∙ yes))
+    (λ (no : was.used ≡ false). free no)
+    (cases_Bool was.used) in
+    ap (λ (v : Volume N nor). v.nor.now) stays
+
 -- one that is none isn't in use
 none_used : (m : IxMap) → m ≡ no_map → m.used ≡ true → ⊥
 none_used m is used = let no : false ≡ true = ap (λ (k : IxMap). k.used) (sym is) ∙ used in cc

@@ -23,7 +23,8 @@ use Rattle.call_model.specs.Calls.{Stands}
 use Rattle.block_gc.specs.RoomMade.{IsReady}
 use Rattle.file_calls.specs.States.{IsImageOf}
 use Rattle.file_calls.specs.Goes.{Does, IsCollected}
-use Rattle.file_calls.specs.Writings.{JobDone, WritesOn}
+use Rattle.file_calls.proofs.CleansBy.{cleans_read}
+use Rattle.file_calls.specs.Writings.{WriteDone, WritesOn}
 use Rattle.image_model.specs.Sound.{IsSound}
 use Rattle.table_model.specs.Window.{settled_at}
 use Rattle.volume.specs.declared.volume.Volume.{Volume}
@@ -44,7 +45,7 @@ module _ {D : Type 0} {nor : NorOf D} {g : Geometry} {mid new : D} (reads : Only
     does_on : Does nor g ask old mid slots last wrote reply → Does nor g ask old new slots last wrote reply
     does_on did = record {
       cuts = read_after did.cuts reads;
-      trims = read_after did.trims reads;
+      upkeep = read_after did.upkeep reads;
       collects = λ s here is. subst (λ (l : List ℕ). IsCollected g reply (nor.bytes old) l) (sym reads.bytes) (did.collects s here is);
       cornered = λ s here corner tight.
           let w = did.cornered s here corner tight in
@@ -63,8 +64,9 @@ module _ {D : Type 0} {nor : NorOf D} {g : Geometry} {mid new : D} (reads : Only
       undamaged = did.undamaged;
       among = did.among;
       brief = did.brief;
-      named = did.named;
+      numbered = did.numbered;
       looks = did.looks;
+      cleans = λ s here write other. cleans_read (did.cleans s here write other) reads;
     }
 
     -- a call after which the device is only read
@@ -84,24 +86,26 @@ module _ {D : Type 0} {nor : NorOf D} {g : Geometry} {mid new : D} (reads : Only
     }
 
   -- so of a write
-  pub writes_read : {old : D} {id at : ℕ} {bytes : List ℕ} {f : File} {wrote : Bool} {result : Result (Unit {0}) FsErr} → WritesOn nor g id at bytes f old mid wrote result → WritesOn nor g id at bytes f old new wrote result
-  writes_read {old} {id} {at} {bytes} {f} {wrote} {result} did = record {
+  pub writes_read : {old : D} {id at : ℕ} {bytes : List ℕ} {f : File} {wrote stood stands : Bool} {result : Result (Unit {0}) FsErr} → WritesOn nor g id at bytes f old mid wrote stood stands result → WritesOn nor g id at bytes f old new wrote stood stands result
+  writes_read {old} {id} {at} {bytes} {f} {wrote} {stood} {stands} {result} did = record {
     untouched = λ idle. reads_then (did.untouched idle) reads;
     cause = λ e. let rose = did.cause e in omega (arith, rose, reads.faults);
     means = did.means;
     cuts = read_after did.cuts reads;
-    trims = read_after did.trims reads;
-    ends = λ tells can. subst (λ (l : List ℕ). MatchResult result (λ ok. JobDone g (put_file (written at bytes f) (table_of g (nor.bytes old))) l) (λ why. why ≡ DeviceFault)) (sym reads.bytes) (did.ends tells can);
+    upkeep = read_after did.upkeep reads;
+    counted = did.counted;
+    ends = λ tells can. subst (λ (l : List ℕ). MatchResult result (λ ok. WriteDone g id at bytes f (nor.bytes old) l) (λ why. why ≡ DeviceFault)) (sym reads.bytes) (did.ends tells can);
   }
 
 -- what waited was put onto the chip, and then the device was only read
-pub settles_read : {N : Type 0} {nor : NorOf N} {old mid new : Volume N nor} (had : Bool) → Settles old mid (Ok had) → OnlyReads nor mid.nor.now new.nor.now → IsSameVolume mid new → new.slots.now ≡ mid.slots.now → (memory new).run ≡ (memory mid).run → new.stage ≡ mid.stage →
+pub settles_read : {N : Type 0} {nor : NorOf N} {old mid new : Volume N nor} (had : Bool) → Settles old mid (Ok had) → OnlyReads nor mid.nor.now new.nor.now → IsSameVolume mid new → new.slots.now ≡ mid.slots.now → (memory new).run ≡ (memory mid).run → new.stage ≡ mid.stage → new.counted ≡ mid.counted →
     ((memory old).run ≡ None → new ≡ mid) → Settles old new (Ok had)
-settles_read {N} {nor} {old} {mid} {new} had was reads same slots run stage idle = record {
+settles_read {N} {nor} {old} {mid} {new} had was reads same slots run stage counted idle = record {
   same = same_then was.same same;
   slots = slots ∙ was.slots;
   cuts = read_after was.cuts reads;
-  trims = read_after was.trims reads;
+  upkeep = read_after was.upkeep reads;
+  counted = λ m here before. counted ∙ was.counted m here before;
   done = (stage ∙ was.done.0, run ∙ was.done.1, was.done.2);
   stops = tt;
   idle = λ none. let w = was.idle none in (w.0, idle none ∙ w.1);

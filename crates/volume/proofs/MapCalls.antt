@@ -233,6 +233,7 @@ module _ {N : Type 0} {nor : NorOf N} where
   stopped_reads {old} {new} at into why settling is closed settles maps = record {
     call = stopped_call why settling is closed settles;
     answers = λ m takes here fine. absurd (fine (ap (λ (w : FsErr). Err (Call w)) (stops_fault why settling is settles m takes here)));
+    differs = λ d e. stopped_differs why settling is closed settles d (same_call (Some (Call why)) why (Damaged d) refl e);
     once = λ takes none. absurd (had_or_why settling false why ((settles takes).idle none).0 is);
     maps = maps;
     idle = λ takes none. absurd (had_or_why settling false why ((settles takes).idle none).0 is);
@@ -327,9 +328,10 @@ module _ {N : Type 0} {nor : NorOf N} where
             nor.device_reads new.nor.now ≤ nor.device_reads mid.nor.now + pages_met (body mid.geometry) at (given mid.map.size at (length was)) →
             (mid.map.used ≡ false → result ≡ Err NoMap) → (mid.map.used ≡ true → covers_read mid at (length was) ≡ false → result ≡ Err NotMapped) →
             (why_not result ≡ Some (Call DeviceFault) → Rose (nor.faults mid.nor.now) (nor.faults new.nor.now)) →
+            ((d : Differ) → why_not result ≡ Some (Call (Damaged d)) → d.wanted ≢ d.found) →
             (nor.tells mid.nor.now → (f : File) → IsFileOf mid.geometry (nor.bytes mid.nor.now) mid.map.id f → mid.map.used ≡ true → covers_read mid at (length was) ≡ true → GivesOrFault result (λ n. IsRead f at was got n)) →
             (nor.tells mid.nor.now → IsImage mid.geometry (nor.bytes mid.nor.now)) → ReadsMap old new at was got result
-        mapped_reads at was got result stage once none apart cause told image = record {
+        mapped_reads at was got result stage once none apart cause differs told image = record {
           call = read_call (why_not result) stage cause;
           answers = λ m on here fine.
               let s = settled_done in
@@ -341,6 +343,7 @@ module _ {N : Type 0} {nor : NorOf N} where
                     let listed : file_of mid.map.id (table_of mid.geometry (nor.bytes mid.nor.now)) ≡ Some f = ap (λ (t : List File). file_of mid.map.id t) (w.0.image.table ∙ settled_table m.state) ∙ ap (λ (x : IxMap). file_of x.id m.state.table) (sym map) ∙ there in
                     told w.0.tells f (whole_file mid.geometry (nor.bytes mid.nor.now) mid.map.id f (image w.0.tells) w.0.image.tidy listed) (ap (λ (x : IxMap). x.used) (sym map) ∙ used) (sym (covers_on at (length was)) ∙ covered);
               };
+          differs = differs;
           once = λ on free. subst (λ (v : Volume N nor). nor.device_reads new.nor.now ≤ nor.device_reads v.nor.now + pages_met (body v.geometry) at (given v.map.size at (length was))) (still takes free) once;
           maps = λ m on here. keeps_on (breaks (map_reply (why_not result))) (maps m on here);
           idle = λ on free. map ∙ ap (λ (v : Volume N nor). v.map) (still takes free);

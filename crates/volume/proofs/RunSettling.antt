@@ -24,7 +24,8 @@ use Rattle.fd_table.specs.Slots.{descriptors}
 use Rattle.write_window.specs.declared.window.Held.{Held}
 use Rattle.write_window.specs.Shown.{run_in}
 use Rattle.write_window.specs.Runs.{Run}
-use Rattle.trim_laws.specs.Trim.{Trims}
+use Rattle.trim_laws.specs.Upkeep.{Upkeep}
+use Rattle.trim_laws.proofs.Wears.{upkeep_none}
 use Rattle.flash_view.specs.declared.view.View.{View}
 use Rattle.flash_view.specs.Steps.{Stepped}
 use Rattle.call_model.specs.Safe.{IsSafe}
@@ -39,7 +40,7 @@ use Rattle.volume.specs.Same.{IsSameVolume}
 use Rattle.volume.specs.Replies.{breaks, may_settle}
 use Rattle.file_calls.specs.Collecting.{MayStop, refusing}
 use Rattle.volume.specs.Holds.{memory, Holds}
-use Rattle.file_calls.specs.Writings.{CanWrite, WriteCut, JobDone, WritesOn, writing}
+use Rattle.file_calls.specs.Writings.{CanWrite, WriteCut, WriteDone, WritesOn, writing}
 use Rattle.volume.specs.Settles.{Settles, SettledOr, without_had}
 use Rattle.volume.specs.Unmounts.{IsWhole, UnmountsTo}
 use Rattle.volume.proofs.Staying.{same_none}
@@ -96,7 +97,7 @@ module _ (g : Geometry) (was : List ℕ) (memory : Memory) (m : Moment) (r : Run
   )
 
   -- where it is done all is settled
-  pub done_settles : (now : List ℕ) → JobDone g (put_file (written r.start r.bytes (file_in g was r.id)) (table_of g was)) now → IsAt g now (record { slots = memory.slots; run = None }) (settled_at m.state)
+  pub done_settles : (now : List ℕ) → WriteDone g r.id r.start r.bytes (file_in g was r.id) was now → IsAt g now (record { slots = memory.slots; run = None }) (settled_at m.state)
   unfolding settled_at
   done_settles now done = record { tidy = done.tidy; table = done.table ∙ sym written_is; slots = at.slots; run = refl; opened = at.opened }
 
@@ -131,8 +132,8 @@ any_file = empty_file 0
 module _ {N : Type 0} {nor : NorOf N} where
   -- a write over a view, as one on its device
   pub writes_on : {id at : ℕ} {bytes : List ℕ} {f : File} {old new : View N nor} {result : Result (Unit {0}) FsErr} → Stepped refusing old new result (writing id at bytes f) → old.wrote ≡ false →
-      WritesOn nor old.geometry id at bytes f old.nor.now new.nor.now new.wrote result
-  writes_on step fresh = record { untouched = step.framed.untouched fresh; cause = step.cause; means = step.means; cuts = step.cuts; trims = step.trims; ends = step.ends }
+      WritesOn nor old.geometry id at bytes f old.nor.now new.nor.now new.wrote old.counted new.counted result
+  writes_on step fresh = record { untouched = step.framed.untouched fresh; cause = step.cause; means = step.means; cuts = step.cuts; upkeep = step.upkeep; counted = step.stands; ends = step.ends }
 
   -- nothing waits
   pub settles_none : (v : Volume N nor) → (memory v).run ≡ None → Settles v v (Ok false)
@@ -144,7 +145,8 @@ module _ {N : Type 0} {nor : NorOf N} where
         slots = refl;
         cuts = unchanged v.nor.now (λ was image. (m : Moment) → IsAt g was (memory v) m → IsSafe g was image × IsAmong (table_of g image) (from_settled m []))
             (λ tells m at. (safe_as g a a (holds_itself g a) at.tidy, settled_first (table_of g a) m [] at.table));
-        trims = unchanged v.nor.now (λ was image. (m : Moment) → IsAt g was (memory v) m → Trims g was image) (λ tells m at trim. trim);
+        upkeep = unchanged v.nor.now (λ was image. (m : Moment) → IsAt g was (memory v) m → Upkeep g was image) (λ tells m at. upkeep_none g a);
+        counted = λ m here before. before;
         done = (refl, none, sym (ap is_some none));
         stops = tt;
         idle = λ e. (refl, refl);
@@ -157,19 +159,19 @@ module _ {N : Type 0} {nor : NorOf N} where
   waits_not old r run none = let no : None ≡ Some r = sym none ∙ run in cc
 
   -- what a cut leaves while a run is written
-  settling_cuts : (old new : Volume N nor) (r : Run) (run : (memory old).run ≡ Some r) (wrote : Bool) (result : Result (Unit {0}) FsErr) → ((f : File) → WritesOn nor old.geometry r.id r.start r.bytes f old.nor.now new.nor.now wrote result) →
+  settling_cuts : (old new : Volume N nor) (r : Run) (run : (memory old).run ≡ Some r) (wrote : Bool) (result : Result (Unit {0}) FsErr) → ((f : File) → WritesOn nor old.geometry r.id r.start r.bytes f old.nor.now new.nor.now wrote old.counted new.counted result) →
       Changes nor old.nor.now new.nor.now (λ was image. (m : Moment) → IsAt old.geometry was (memory old) m → IsSafe old.geometry was image × IsAmong (table_of old.geometry image) (from_settled m []))
   settling_cuts old new r run wrote result writes =
       let g = old.geometry in
       let was = nor.bytes old.nor.now in
       wider (writes (file_in g was r.id)).cuts (λ tells image cut m at. cut_waits g was (memory old) m r run at image (cut (can_write g was (memory old) m r run at)))
 
-  settling_trims : (old new : Volume N nor) (r : Run) (run : (memory old).run ≡ Some r) (wrote : Bool) (result : Result (Unit {0}) FsErr) → ((f : File) → WritesOn nor old.geometry r.id r.start r.bytes f old.nor.now new.nor.now wrote result) →
-      Changes nor old.nor.now new.nor.now (λ was image. (m : Moment) → IsAt old.geometry was (memory old) m → Trims old.geometry was image)
-  settling_trims old new r run wrote result writes =
+  settling_upkeep : (old new : Volume N nor) (r : Run) (run : (memory old).run ≡ Some r) (wrote : Bool) (result : Result (Unit {0}) FsErr) → ((f : File) → WritesOn nor old.geometry r.id r.start r.bytes f old.nor.now new.nor.now wrote old.counted new.counted result) →
+      Changes nor old.nor.now new.nor.now (λ was image. (m : Moment) → IsAt old.geometry was (memory old) m → Upkeep old.geometry was image)
+  settling_upkeep old new r run wrote result writes =
       let g = old.geometry in
       let was = nor.bytes old.nor.now in
-      wider (writes (file_in g was r.id)).trims (λ tells image trim m at. trim (can_write g was (memory old) m r run at))
+      wider (writes (file_in g was r.id)).upkeep (λ tells image kept m at. kept (can_write g was (memory old) m r run at))
 
   -- a volume stands where all is settled, by its image
   pub settled_now : (old new : Volume N nor) (s : State) → IsSameVolume old new → new.slots.now ≡ old.slots.now → (memory new).run ≡ None → nor.tells new.nor.now →
@@ -182,7 +184,7 @@ module _ {N : Type 0} {nor : NorOf N} where
 
   module _ {old new : Volume N nor} (r : Run) (run : (memory old).run ≡ Some r) (wrote : Bool) (same : IsSameVolume old new) (slots : new.slots.now ≡ old.slots.now) where
     -- all that waited is on the chip
-    pub settles_done : ((f : File) → WritesOn nor old.geometry r.id r.start r.bytes f old.nor.now new.nor.now wrote (Ok tt)) → (memory new).run ≡ None → new.stage ≡ old.stage → Settles old new (Ok true)
+    pub settles_done : ((f : File) → WritesOn nor old.geometry r.id r.start r.bytes f old.nor.now new.nor.now wrote old.counted new.counted (Ok tt)) → (memory new).run ≡ None → new.stage ≡ old.stage → Settles old new (Ok true)
     settles_done writes none stage =
         let g = old.geometry in
         let was = nor.bytes old.nor.now in
@@ -192,7 +194,8 @@ module _ {N : Type 0} {nor : NorOf N} where
           same = same;
           slots = slots;
           cuts = cuts;
-          trims = settling_trims old new r run wrote (Ok tt) writes;
+          upkeep = settling_upkeep old new r run wrote (Ok tt) writes;
+          counted = λ m here. (writes f).counted here.tells (can_write g was (memory old) m r run here.image);
           done = (stage, none, sym (ap is_some run));
           stops = tt;
           idle = λ e. absurd (waits_not old r run e);
@@ -206,7 +209,7 @@ module _ {N : Type 0} {nor : NorOf N} where
         }
 
     -- it isn't
-    pub settles_failed : (why : FsErr) → ((f : File) → WritesOn nor old.geometry r.id r.start r.bytes f old.nor.now new.nor.now wrote (Err why)) → (wrote ≡ true → Rose (nor.device_writes old.nor.now) (nor.device_writes new.nor.now)) → (memory new).run ≡ (memory old).run → IsStaged old.stage new.stage wrote (Refuses why) → Settles old new (Err why)
+    pub settles_failed : (why : FsErr) → ((f : File) → WritesOn nor old.geometry r.id r.start r.bytes f old.nor.now new.nor.now wrote old.counted new.counted (Err why)) → (wrote ≡ true → Rose (nor.device_writes old.nor.now) (nor.device_writes new.nor.now)) → (memory new).run ≡ (memory old).run → IsStaged old.stage new.stage wrote (Refuses why) → Settles old new (Err why)
     settles_failed why writes asked kept staged =
         let g = old.geometry in
         let was = nor.bytes old.nor.now in
@@ -215,7 +218,8 @@ module _ {N : Type 0} {nor : NorOf N} where
           same = same;
           slots = slots;
           cuts = settling_cuts old new r run wrote (Err why) writes;
-          trims = settling_trims old new r run wrote (Err why) writes;
+          upkeep = settling_upkeep old new r run wrote (Err why) writes;
+          counted = λ m here. tt;
           done = tt;
           stops = record {
             among = stops_settling why (writes f).means;

@@ -43,9 +43,10 @@ use Rattle.file_calls.specs.Replies.{MeetsPage, may_meet}
 use Rattle.file_calls.specs.States.{IsImageOf}
 use Rattle.file_calls.specs.Refusals.{IsResized}
 use Rattle.file_calls.specs.Collecting.{refusing}
-use Rattle.volume.specs.Acts.{Acts}
+use Rattle.volume.specs.Acts.{ActsQuietly}
 use Rattle.file_calls.specs.Writings.{writing}
-use Rattle.file_calls.proofs.Going.{IsStep, is_flat, reads_cuts, reads_trims, names_by, named_fine}
+use Rattle.file_calls.proofs.Numbered.{numbered_fine, write_fine}
+use Rattle.file_calls.proofs.Going.{IsStep, is_flat, reads_cuts, reads_upkeep, names_by}
 use Rattle.volume.proofs.Acting.{EndsSettled}
 use Rattle.file_calls.proofs.Descriptors.{open_in, file_at}
 use Rattle.file_calls.proofs.Cutting.{TellsRoom}
@@ -84,8 +85,6 @@ pub meets_write : (why : FsErr) (fd : ℕ) (bytes : List ℕ) → MeetsPage why 
 meets_write Tight fd bytes met = refl
 meets_write Full fd bytes met = refl
 meets_write DeviceFault fd bytes met = refl
-meets_write BadDescriptor fd bytes met = refl
-meets_write NotWritable fd bytes met = refl
 meets_write SeekBounds fd bytes met = absurd (let no : false ≡ true = (met [] [] 0 fd 0).0 in cc)
 meets_write _ fd bytes met = absurd (let no : false ≡ true = (met [] [] 0 fd 0).2 in cc)
 
@@ -256,33 +255,37 @@ module _ {D : Type 0} {nor : NorOf D} {g : Geometry} {old : D} {slots : List FdS
                 };
               }
 
-          pub acts_waiting : {kept : Option Run} → kept ≡ Some (run_by fd slot place bytes) → Acts nor g (Writes fd bytes) old new slots last kept wrote (Number (length bytes))
-          acts_waiting kept = subst (λ (r : Option Run). Acts nor g (Writes fd bytes) old new slots last r wrote (Number (length bytes))) (sym kept) (record {
-            does = record {
-              cuts = reads_cuts (Writes fd bytes) reads;
-              trims = reads_trims reads;
-              collects = λ s here is. absurd (let no : true ≡ false = ap is_flat is in cc);
-              cornered = λ s here corner tight. absurd (let no : false ≡ true = corner.cuts in cc);
-              begun = λ s here w. absurd (let no : true ≡ false = sym w ∙ none in cc);
-              untouched = λ w. reads;
-              still = λ refusal. absurd (let no : false ≡ true = refusal in cc);
-              keeps = λ keeps. absurd (let no : false ≡ true = keeps in cc);
-              cause = λ e. absurd (cc);
-              differs = λ d e. absurd (cc);
-              undamaged = λ s here d e. cc;
-              among = eq-eqb (length bytes) (length bytes) refl;
-              brief = λ given e. absurd (cc);
-              named = named_fine (Writes fd bytes) (Number (length bytes)) wrote refl (λ why name e. cc);
-              looks = λ look. none;
+          pub acts_waiting : {kept : Option Run} → kept ≡ Some (run_by fd slot place bytes) → ActsQuietly nor g (Writes fd bytes) old new slots last kept wrote (Number (length bytes))
+          acts_waiting kept = subst (λ (r : Option Run). ActsQuietly nor g (Writes fd bytes) old new slots last r wrote (Number (length bytes))) (sym kept) (record {
+            quiet = λ why e. absurd (let no : None ≡ Some why = sym (write_fine (opened slot) at may) ∙ e in cc);
+            acts = record {
+              does = record {
+                cuts = reads_cuts (Writes fd bytes) reads;
+                upkeep = reads_upkeep reads;
+                collects = λ s here is. absurd (let no : true ≡ false = ap is_flat is in cc);
+                cornered = λ s here corner tight. absurd (let no : false ≡ true = corner.cuts in cc);
+                begun = λ s here w. absurd (let no : true ≡ false = sym w ∙ none in cc);
+                untouched = λ w. reads;
+                still = λ refusal. absurd (let no : false ≡ true = refusal in cc);
+                keeps = λ keeps. absurd (let no : false ≡ true = keeps in cc);
+                cause = λ e. absurd (cc);
+                differs = λ d e. absurd (cc);
+                undamaged = λ s here d e. cc;
+                among = eq-eqb (length bytes) (length bytes) refl;
+                brief = λ given e. absurd (cc);
+                numbered = numbered_fine g slots (Writes fd bytes) (Number (length bytes)) wrote (write_fine (opened slot) at may) (λ why of e. cc);
+                looks = λ look. none;
+                cleans = λ s here write. absurd (let no : true ≡ false = write in cc);
+              };
+              answers = λ s here no_fault whole. record {
+                reply_is = sym (ap (λ (o : Outcome). o.answer) (done s here).answer_is);
+                stands = waits_stand s here;
+                reserve = λ reserve. subst (λ (l : List ℕ). HasReserve g l) (sym reads.bytes) reserve;
+                reads = λ refusal. reads;
+              };
+              empty = λ refusal. absurd (let no : false ≡ true = refusal in cc);
+              waits = λ some. none;
             };
-            answers = λ s here no_fault whole. record {
-              reply_is = sym (ap (λ (o : Outcome). o.answer) (done s here).answer_is);
-              stands = waits_stand s here;
-              reserve = λ reserve. subst (λ (l : List ℕ). HasReserve g l) (sym reads.bytes) reserve;
-              reads = λ refusal. reads;
-            };
-            empty = λ refusal. absurd (let no : false ≡ true = refusal in cc);
-            waits = λ some. none;
           })
 
 -- ---- how the parts end

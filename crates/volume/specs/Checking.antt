@@ -22,6 +22,7 @@ use Rattle.flash_view.specs.declared.kinds.StepErr.{StepErr}
 use Rattle.flash_view.specs.declared.kinds.StepErr.TheVariants.{DeviceFault as StepFault, Damaged as StepDamaged}
 use Rattle.flash_view.specs.declared.view.View.{View}
 use Rattle.flash_view.specs.Same.{OnlyLooks}
+use Rattle.trim_laws.specs.Wear.{Worn}
 use Rattle.flash_view.specs.Steps.{Step, Errors}
 use Rattle.vol_check.specs.declared.report.CheckErr.{CheckErr}
 use Rattle.vol_check.specs.declared.report.CheckErr.TheVariants.{Wrong, DeviceFault, Damaged}
@@ -36,7 +37,8 @@ CheckCut = PartCut
 
 -- The stages of a check left an image in which every block has the erase count that it had, but the one that lacked its magic the next one.
 -- In that image the shared blocks were parted, and where none was shared nothing was done. Then chosen blocks were cleaned, one after the
--- other, and each cleaning began with fewer than two free blocks: so none where two were free after the stages.
+-- other, and each cleaning began with fewer than two free blocks: so none where two were free after the stages. From the stages on no erase
+-- count changed but by making blocks fresh, each with the next count.
 pub record SweepsAfter (g : Geometry) (was now : List ℕ) : Type 0 where
   pub staged : List ℕ
   pub stages : IsStripped g was staged
@@ -47,6 +49,7 @@ pub record SweepsAfter (g : Geometry) (was now : List ℕ) : Type 0 where
   pub swept : SweptTo g parted now
   pub needed : NoneIs (HasReserve g) swept.through
   pub quiet : HasReserve g staged → now ≡ parted
+  pub worn : Worn g staged now
 
 -- What a check leaves: the image is tidy with its table, and the report tells what was found and done, and how many blocks are free now.
 -- Two free blocks that were there are there; and two are free, or no block that is worth cleaning can be cleaned.

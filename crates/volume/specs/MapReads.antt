@@ -1,5 +1,6 @@
 -- What the calls of maps do to a volume.
-use Rattle.std.specs.Prelude.{◌≡◌, ◌≢◌, ◌⊎◌, ℕ, ℤ, negsuc, ◌+◌, ◌≤◌, List, [], length, Bool, true, false, Option, Some, None, Result, Ok, Err, IfErr, nat_lt, ◌&&◌, if◌then◌else◌}
+use Rattle.std.specs.Prelude.{◌≡◌, ◌≢◌, ◌⊎◌, ℕ, ℤ, negsuc, ◌+◌, ◌≤◌, List, [], length, Bool, true, false, Option, Some, None, Result, Ok, Err, IfErr, nat_lt}
+use Rattle.std.specs.Prelude.{◌&&◌, if◌then◌else◌}
 use Rattle.geometry.specs.Numbers.{body}
 use Rattle.nor_core.specs.declared.state.NorState.{Ghosts as NorOf}
 use Rattle.nor_core.specs.Count.{Rose}
@@ -82,7 +83,8 @@ module _ {N : Type 0} {nor : NorOf N} where
     pub same : IsSameVolume old new
     pub slots : new.slots.now ≡ old.slots.now
     -- what a cut leaves: a table that waited
-    pub cuts : Changes nor old.nor.now new.nor.now (λ before image. (m : Moment) → IsAt old.geometry before (memory old) m → IsSafe old.geometry before image × IsAmong (table_of old.geometry image) (from_settled m []))
+    pub cuts : Changes nor old.nor.now new.nor.now (λ before image. (m : Moment) → IsAt old.geometry before (memory old) m →
+        IsSafe old.geometry before image × IsAmong (table_of old.geometry image) (from_settled m []))
     -- a volume that stands at a moment stands where all is settled, unless the device failed
     pub stands : (m : Moment) → takes_calls old ≡ true → Holds old m → (refusal ≡ Some (Call DeviceFault) → ⊥) → Holds new (settled_at m.state)
     pub still : takes_calls old ≡ true → HasNone old → Unchanged old new
@@ -106,15 +108,19 @@ module _ {N : Type 0} {nor : NorOf N} where
   pub record ReadsThrough (v : Volume N nor) (table : List File) (at : ℕ) (was got : List ℕ) (result : Result ℕ MapErr) : Type 0 where
     pub none : v.map.used ≡ false → result ≡ Err NoMap
     pub apart : v.map.used ≡ true → covers_read v at (length was) ≡ false → result ≡ Err NotMapped
-    pub reads : v.map.used ≡ true → covers_read v at (length was) ≡ true → (f : File) → file_of v.map.id table ≡ Some f → GivesOrFault result (λ n. IsRead f at was got n)
+    pub reads : v.map.used ≡ true → covers_read v at (length was) ≡ true → (f : File) → file_of v.map.id table ≡ Some f →
+        GivesOrFault result (λ n. IsRead f at was got n)
 
   -- What a read through a map does.
   pub record ReadsMap (old new : Volume N nor) (at : ℕ) (was got : List ℕ) (result : Result ℕ MapErr) : Type 0 where
     pub call : SettlesAndReads old new (why_not result)
     -- on a volume that stands at a moment, the bytes are those of the table, unless the device failed
     pub answers : (m : Moment) → takes_calls old ≡ true → Holds old m → (result ≡ Err (Call DeviceFault) → ⊥) → ReadsThrough new m.state.table at was got result
+    -- of a page that reads otherwise than it was written, two tags are told that differ
+    pub differs : (d : Differ) → why_not result ≡ Some (Call (Damaged d)) → d.wanted ≢ d.found
     -- where nothing waits, each data page in which the bytes lie is read once at most, and no other page
-    pub once : takes_calls old ≡ true → HasNone old → nor.device_reads new.nor.now ≤ nor.device_reads old.nor.now + pages_met (body old.geometry) at (given old.map.size at (length was))
+    pub once : takes_calls old ≡ true → HasNone old →
+        nor.device_reads new.nor.now ≤ nor.device_reads old.nor.now + pages_met (body old.geometry) at (given old.map.size at (length was))
     -- the map
     pub maps : (m : Moment) → takes_calls old ≡ true → Holds old m → KeepsMap old new (breaks (map_reply (why_not result)))
     pub idle : takes_calls old ≡ true → HasNone old → new.map ≡ old.map
@@ -122,12 +128,15 @@ module _ {N : Type 0} {nor : NorOf N} where
   -- What attaching a map does, of the id that is asked for by the state.
   pub record Attaches (wanted : State → Result ℕ FsErr) (first lent : ℕ) (old new : Volume N nor) (result : Result (Unit {0}) MapRefusal) : Type 0 where
     pub call : SettlesAndReads old new (why_back result)
-    pub answers : (m : Moment) → takes_calls old ≡ true → Holds old m → (why_back result ≡ Some (Call DeviceFault) → ⊥) → why_back result ≡ attach_refusal (is_attached old) (wanted m.state)
+    pub answers : (m : Moment) → takes_calls old ≡ true → Holds old m → (why_back result ≡ Some (Call DeviceFault) → ⊥) →
+        why_back result ≡ attach_refusal (is_attached old) (wanted m.state)
     -- done, the file of that id is mapped in the lent bytes
-    pub done : (m : Moment) → takes_calls old ≡ true → Holds old m → why_back result ≡ None → (new.map.used ≡ true) × (wanted m.state ≡ Ok new.map.id) × (new.map.first ≡ first) × (length new.numbers.now ≡ lent)
+    pub done : (m : Moment) → takes_calls old ≡ true → Holds old m → why_back result ≡ None →
+        (new.map.used ≡ true) × (wanted m.state ≡ Ok new.map.id) × (new.map.first ≡ first) × (length new.numbers.now ≡ lent)
     -- refused, the bytes are given back, as many as before are lent, and the map that there was is kept
     pub back : IfErr result (λ refusal. length refusal.numbers.now ≡ lent)
     pub apart : (m : Moment) → takes_calls old ≡ true → Holds old m → (why_back result ≡ None → ⊥) → is_attached new ≡ is_attached old
-    pub maps : (m : Moment) → takes_calls old ≡ true → Holds old m → (why_back result ≡ None → ⊥) → is_attached old ≡ true → KeepsMap old new (breaks (map_reply (why_back result)))
+    pub maps : (m : Moment) → takes_calls old ≡ true → Holds old m → (why_back result ≡ None → ⊥) → is_attached old ≡ true →
+        KeepsMap old new (breaks (map_reply (why_back result)))
     -- of a page that reads otherwise than it was written, two tags are told that differ
     pub differs : (d : Differ) → why_back result ≡ Some (Call (Damaged d)) → d.wanted ≢ d.found

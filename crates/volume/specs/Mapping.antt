@@ -38,5 +38,6 @@ module _ {N : Type 0} {nor : NorOf N} where
   -- call broke, where a fault was counted in it, or where the file is gone.
   pub record KeepsMap (old new : Volume N nor) (broke : Bool) : Type 0 where
     pub room : length new.numbers.now ≡ length old.numbers.now
-    pub lost : old.map.used ≡ true → new.map.used ≡ false → (broke ≡ true) ⊎ (Rose (nor.faults old.nor.now) (nor.faults new.nor.now) ⊎ HasNoHeader new old.map.id)
+    pub lost : old.map.used ≡ true → new.map.used ≡ false →
+        (broke ≡ true) ⊎ (Rose (nor.faults old.nor.now) (nor.faults new.nor.now) ⊎ HasNoHeader new old.map.id)
     pub same : new.map.used ≡ true → (old.map.used ≡ true) × (new.map.id ≡ old.map.id) × (new.map.first ≡ old.map.first)

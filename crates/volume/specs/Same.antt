@@ -5,8 +5,8 @@ use Rattle.page_cache.specs.Kept.{FewReads}
 use Rattle.flash_view.specs.Same.{StaysBehind}
 use Rattle.volume.specs.declared.volume.Volume.{Volume}
 
--- The same geometry, over the same device and lent memory; the bytes behind the volume stay; where there is a frame for each page and no fault was counted, each
--- read of the device has got one more page held.
+-- The same geometry, over the same device and lent memory; the bytes behind the volume stay; where there is a frame for each page and no fault was counted,
+-- each read of the device has got one more page held.
 pub record IsSameVolume {N : Type 0} {nor : NorOf N} (old new : Volume N nor) : Type 0 where
   pub geometry : new.geometry ≡ old.geometry
   pub nor_name : new.nor.ghost_name ≡ old.nor.ghost_name

@@ -41,7 +41,8 @@ pub record ScrubsOn {D : Type 0} (nor : NorOf D) (g : Geometry) (limit : ℕ) (o
   pub cuts : Changes nor old new (λ was image. IsTidy g was → ScrubCut g was image)
   pub ends : nor.tells old → IsTidy g (nor.bytes old) → MatchResult result (ScrubDone g limit (nor.bytes old) (nor.bytes new)) (λ why. why ≡ StepFault)
   pub rest : IfOk result (λ scrub. IsRest scrub → OnlyReads nor old new)
-  pub few : nor.tells old → IsTidy g (nor.bytes old) → IfOk result (λ scrub. nor.device_writes new ≤ nor.device_writes old + most_programs g (nor.bytes old) scrub)
+  pub few : nor.tells old → IsTidy g (nor.bytes old) →
+      IfOk result (λ scrub. nor.device_writes new ≤ nor.device_writes old + most_programs g (nor.bytes old) scrub)
 
 -- how a call is answered whose step went so
 abbrev pub told_as : Result Scrub StepErr → Result Scrub FsErr
@@ -65,7 +66,8 @@ module _ {N : Type 0} {nor : NorOf N} where
     pub same : IsSameVolume old new
     pub slots : new.slots.now ≡ old.slots.now
     -- a cut leaves a table that waited
-    pub cuts : Changes nor old.nor.now new.nor.now (λ was image. (m : Moment) → IsAt old.geometry was (memory old) m → IsSafe old.geometry was image × IsAmong (table_of old.geometry image) (from_settled m []))
+    pub cuts : Changes nor old.nor.now new.nor.now (λ was image. (m : Moment) → IsAt old.geometry was (memory old) m →
+        IsSafe old.geometry was image × IsAmong (table_of old.geometry image) (from_settled m []))
     -- a volume that stands at a moment stands where all is settled, and one step was made from there, unless the device failed
     pub done : (m : Moment) → takes_calls old ≡ true → Holds old m →
         MatchResult result
@@ -79,7 +81,8 @@ module _ {N : Type 0} {nor : NorOf N} where
     pub differs : (d : Differ) → result ≡ Err (Damaged d) → d.wanted ≢ d.found
     -- after a fault the volume has failed, or nothing is changed
     pub failed : IfErr result (λ why. breaks (Refuses why) ≡ true → (has_failed new ≡ true) ⊎ Unchanged old new)
-    pub asked : takes_calls old ≡ true → has_failed new ≡ true → Rose (nor.device_writes old.nor.now) (nor.device_writes new.nor.now) ⊎ (((memory old).run ≡ None → ⊥) × ((memory new).run ≡ None))
+    pub asked : takes_calls old ≡ true → has_failed new ≡ true →
+        Rose (nor.device_writes old.nor.now) (nor.device_writes new.nor.now) ⊎ (((memory old).run ≡ None → ⊥) × ((memory new).run ≡ None))
     pub stays : (new.stage ≡ old.stage) ⊎ (has_failed new ≡ true)
     -- done, nothing waits, and it takes calls as before
     pub empty : takes_calls old ≡ true → OnOk result ((memory new).run ≡ None)

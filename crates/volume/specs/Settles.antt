@@ -1,5 +1,5 @@
 -- How the bytes that wait are put onto the chip.
-use Rattle.std.specs.Prelude.{◌≡◌, ◌≢◌, ◌⊎◌, [], Bool, true, false, None, Result, Ok, Err, IfOk, IfErr, MatchResult}
+use Rattle.std.specs.Prelude.{◌≡◌, ◌≢◌, ◌⊎◌, [], Bool, true, false, None, Result, Ok, Err, IfOk, IfErr, OnOk, MatchResult}
 use Rattle.std.specs.Option.{is_some}
 use Rattle.nor_core.specs.declared.state.NorState.{Ghosts as NorOf}
 use Rattle.nor_core.specs.Count.{Rose}
@@ -12,7 +12,7 @@ use Rattle.table_model.specs.Window.{Moment, settled_at, from_settled, IsAmong}
 use Rattle.image_model.specs.Tables.{table_of}
 use Rattle.call_model.specs.Safe.{IsSafe, Holds as HoldsImage}
 use Rattle.call_model.specs.Memory.{IsAt}
-use Rattle.trim_laws.specs.Trim.{Trims}
+use Rattle.trim_laws.specs.Upkeep.{Upkeep}
 use Rattle.volume.specs.declared.volume.Volume.{Volume}
 use Rattle.volume.specs.Stages.{takes_calls, has_failed}
 use Rattle.volume.specs.Same.{IsSameVolume}
@@ -41,16 +41,21 @@ module _ {N : Type 0} {nor : NorOf N} where
     pub same : IsSameVolume old new
     pub slots : new.slots.now ≡ old.slots.now
     -- a cut leaves a table that waited
-    pub cuts : Changes nor old.nor.now new.nor.now (λ was image. (m : Moment) → IsAt old.geometry was (memory old) m → IsSafe old.geometry was image × IsAmong (table_of old.geometry image) (from_settled m []))
-    -- where no header page named a page behind the last one of its file, none does, at a cut and after the call
-    pub trims : Changes nor old.nor.now new.nor.now (λ was image. (m : Moment) → IsAt old.geometry was (memory old) m → Trims old.geometry was image)
+    pub cuts : Changes nor old.nor.now new.nor.now (λ was image. (m : Moment) → IsAt old.geometry was (memory old) m →
+        IsSafe old.geometry was image × IsAmong (table_of old.geometry image) (from_settled m []))
+    -- where no header page named a page behind the last one of its file, none does, at a cut and after the call; and no erase count changes but
+    -- by making blocks fresh, one after the other, each with the next count
+    pub upkeep : Changes nor old.nor.now new.nor.now (λ was image. (m : Moment) → IsAt old.geometry was (memory old) m → Upkeep old.geometry was image)
+    -- where the table of block counts stood, it stands once this is done, of a volume that stands at a moment
+    pub counted : (m : Moment) → Holds old m → OnOk result (old.counted ≡ true → new.counted ≡ true)
     pub done : IfOk result (λ had. (new.stage ≡ old.stage) × ((memory new).run ≡ None) × (had ≡ is_some (memory old).run))
     pub stops : IfErr result (StopsSettling old new)
     -- where nothing waits nothing is done
     pub idle : (memory old).run ≡ None → (result ≡ Ok false) × (new ≡ old)
     -- a volume that stands at a moment stands where all is settled, unless the device failed
     pub stands : (m : Moment) → Holds old m →
-        MatchResult result (λ had. Holds new (settled_at m.state) × HoldsImage old.geometry (nor.bytes old.nor.now) (nor.bytes new.nor.now)) (λ why. why ≡ DeviceFault)
+        MatchResult result (λ had. Holds new (settled_at m.state) × HoldsImage old.geometry (nor.bytes old.nor.now) (nor.bytes new.nor.now))
+        (λ why. why ≡ DeviceFault)
 
   -- the same, apart from whether anything waited
   pub record SettledOr (old new : Volume N nor) (result : Result (Unit {0}) FsErr) : Type 0 where

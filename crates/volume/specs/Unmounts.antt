@@ -26,7 +26,8 @@ pub record IsWhole {N : Type 0} (nor : NorOf N) (old : Volume N nor) (new : N) (
 
 -- What unmounting leaves of a volume's device, and tells.
 pub record UnmountsTo {N : Type 0} {nor : NorOf N} (old : Volume N nor) (new : N) (last : Result (Unit {0}) FsErr) : Type 0 where
-  pub cuts : Changes nor old.nor.now new (λ was image. (m : Moment) → IsAt old.geometry was (memory old) m → IsSafe old.geometry was image × IsAmong (table_of old.geometry image) (from_settled m []))
+  pub cuts : Changes nor old.nor.now new (λ was image. (m : Moment) → IsAt old.geometry was (memory old) m →
+      IsSafe old.geometry was image × IsAmong (table_of old.geometry image) (from_settled m []))
   -- of a volume that takes calls and stands at a moment, all is on the chip, unless the device failed
   pub stands : (m : Moment) → takes_calls old ≡ true → Holds old m → (IsOk last × IsWhole nor old new m) ⊎ (last ≡ Err DeviceFault)
   pub cause : last ≡ Err DeviceFault → Rose (nor.faults old.nor.now) (nor.faults new)

@@ -7,8 +7,9 @@ ghost use Rattle.flash_view.specs.Same.{StaysBehind};
 ghost use Rattle.flash_view.specs.Table.{HasTable};
 ghost use Rattle.table_model.specs.Ask.{asked};
 ghost use Rattle.file_calls.specs.Replies.{reply_of, shown_by, HasRoomFor};
+ghost use Rattle.file_calls.specs.Goes.{StandsOn};
 ghost use Rattle.volume.specs.Opening.{stage_after as the_stage_after};
-ghost use Rattle.volume.specs.Acts.{Acts};
+ghost use Rattle.volume.specs.Acts.{ActsQuietly};
 ghost use Rattle.volume.specs.Settled.{is_fill};
 ghost use Rattle.write_window.specs.Shown.{run_in};
 
@@ -51,7 +52,9 @@ fn answer_in<N: Nor>(
     ensures same { IsSameView v.old v.new }
     ensures size { length kept.new ≡ length kept.old }
     ensures held { held.new.taken ≤ length kept.new }
-    ensures acts { Acts N.NorState v.old.geometry (asked call.now) v.old.nor.now v.new.nor.now slots.old slots.new (run_in held.new kept.new) v.new.wrote (reply_of result into.new) }
+    ensures acts { ActsQuietly N.NorState v.old.geometry (asked call.now) v.old.nor.now v.new.nor.now slots.old slots.new (run_in held.new kept.new) v.new.wrote
+        (reply_of result into.new) }
+    ensures counted { StandsOn N.NorState v.old.geometry v.old.nor.now slots.old (reply_of result into.new) v.old.counted v.new.counted }
 {
     match *call {
         Call::Write { fd, bytes } => write_in(v, slots, held, kept, fd, bytes),
@@ -94,7 +97,9 @@ fn call_on<N: Nor>(
     ensures asked { result.wrote ≡ true → Rose (N.device_writes nor.old) (N.device_writes nor.new) }
     ensures size { length keep.new ≡ length keep.old }
     ensures held { held.new.taken ≤ length keep.new }
-    ensures acts { Acts N.NorState g (asked call.now) nor.old nor.new slots.old slots.new (run_in held.new keep.new) result.wrote (shown_by result.told into.new) }
+    ensures acts { ActsQuietly N.NorState g (asked call.now) nor.old nor.new slots.old slots.new (run_in held.new keep.new) result.wrote
+        (shown_by result.told into.new) }
+    ensures counted { StandsOn N.NorState g nor.old slots.old (shown_by result.told into.new) counted.old counted.new }
     ensures table { counted.new ≡ true → HasTable N.NorState g nor.new rows.new }
 {
     let mut v = View {
@@ -146,6 +151,7 @@ impl<'b, N: Nor> Volume<'b, N> {
         requires none { (memory self.old).run ≡ None }
         requires room { HasRoomFor (asked call.now) (length into.old) }
         requires no_fill { is_fill (asked call.now) ≡ false }
+        requires was { had ≡ false → was ≡ self.old.map }
         ensures same { IsSameVolume self.old self.new }
         ensures acts { ActsOn had (asked call.now) self.old self.new (shown_by result into.new) }
         ensures map { RefillsTo was self.old self.new (the_breaks (shown_by result into.new)) }

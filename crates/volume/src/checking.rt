@@ -119,8 +119,8 @@ fn check_pages<N: Nor>(v: &mut View<'_, N>, marks: &mut [u8]) -> Result<Report, 
     })
 }
 
-// Has the table of block counts stand, where there is room for its rows. (No contract of the cleaning says whether it stands after
-// that, so it is asked.)
+// Has the table of block counts stand, where there is room for its rows. (Of a device that doesn't hold what it was given no contract of
+// the cleaning says whether it stands after that, so it is asked.)
 #[tactic(auto, using(flash_view::proofs::Looking::looks_none, flash_view::proofs::Looking::looks_counts, room_laws::proofs::Sorted::tidy_tells_free))]
 fn count_again<N: Nor>(v: &mut View<'_, N>) -> Result<(), CheckErr>
     requires tidy { N.tells v.old.nor.now → IsTidy v.old.geometry (N.bytes v.old.nor.now) }

@@ -106,7 +106,8 @@ fn read_on<N: Nor>(
     ensures looks { OnlyReads N.NorState nor.old nor.new }
     ensures once { N.device_reads nor.new ≤ N.device_reads nor.old + pages_met (body g) at (given map.size at (length into.old)) }
     ensures missing { IfErr result (IsMissing map.id) }
-    ensures told { N.tells nor.old → (f : File) → IsMapOf g (N.bytes nor.old) map numbers.now → IsFileOf g (N.bytes nor.old) map.id f → HoldsOrFault result (λ n. IsRead f at into.old into.new n) }
+    ensures told { N.tells nor.old → (f : File) → IsMapOf g (N.bytes nor.old) map numbers.now → IsFileOf g (N.bytes nor.old) map.id f →
+        HoldsOrFault result (λ n. IsRead f at into.old into.new n) }
     ensures table { counted.new ≡ true → HasTable N.NorState g nor.new rows.new }
 {
     let mut v = View {
@@ -124,11 +125,12 @@ fn read_on<N: Nor>(
 }
 
 impl<'b, N: Nor> Volume<'b, N> {
-    ghost use Rattle.std.specs.Prelude.{◌≡◌, ◌⊎◌, ◌+◌, ◌≤◌, length, false, true, Some, Err, IfErr, OnOk, IfSome};
+    ghost use Rattle.std.specs.Prelude.{◌≡◌, ◌≢◌, ◌⊎◌, ◌+◌, ◌≤◌, length, false, true, Some, Err, IfErr, OnOk, IfSome};
     ghost use Rattle.std.specs.Option.{is_some};
     ghost use Rattle.geometry.specs.Numbers.{body};
     ghost use Rattle.nor_core.specs.Count.{Rose};
     ghost use Rattle.nor_core.specs.Device.{OnlyReads};
+    ghost use Rattle.table_model.specs.declared.error.Differ.{Differ};
     ghost use Rattle.table_model.specs.Table.{File, State, file_of};
     ghost use Rattle.table_model.specs.Window.{Moment};
     ghost use Rattle.fd_table.specs.Slots.{descriptors};
@@ -175,10 +177,12 @@ impl<'b, N: Nor> Volume<'b, N> {
         ensures held { self.new.held ≡ self.old.held }
         ensures window { self.new.window.now ≡ self.old.window.now }
         ensures stage { self.new.stage ≡ stage_after had (map_reply (why_back result)) }
-        ensures done { OnOk result ((self.new.map.used ≡ true) × (self.new.map.id ≡ id) × (self.new.map.first ≡ first) × (length self.new.numbers.now ≡ length numbers.old)) }
+        ensures done { OnOk result
+            ((self.new.map.used ≡ true) × (self.new.map.id ≡ id) × (self.new.map.first ≡ first) × (length self.new.numbers.now ≡ length numbers.old)) }
         ensures back { IfErr result (λ refusal. length refusal.numbers.now ≡ length numbers.old) }
         ensures none { IfErr result (λ refusal. (self.new.map.used ≡ false) × (length self.new.numbers.now ≡ 0)) }
-        ensures why { IfErr result (λ refusal. ((refusal.why ≡ MapErr.Call FsErr.DeviceFault) × Rose (N.faults self.old.nor.now) (N.faults self.new.nor.now)) ⊎ ((refusal.why ≡ MapErr.Call FsErr.NotFound) × HasNoHeader self.new id)) }
+        ensures why { IfErr result (λ refusal. ((refusal.why ≡ MapErr.Call FsErr.DeviceFault) × Rose (N.faults self.old.nor.now) (N.faults self.new.nor.now))
+            ⊎ ((refusal.why ≡ MapErr.Call FsErr.NotFound) × HasNoHeader self.new id)) }
     {
         self.map = IxMap::none();
         self.numbers = numbers;
@@ -262,7 +266,8 @@ impl<'b, N: Nor> Volume<'b, N> {
     /// for the span.
     pub fn map_page(&self, i: u32) -> Option<u16>
         ensures number { result ≡ page_told self.now i }
-        ensures right { (m : Moment) (f : File) → Holds self.now m → self.now.map.used ≡ true → file_of self.now.map.id m.settled ≡ Some f → IsRight self.now.geometry (N.bytes self.now.nor.now) self.now.map self.now.numbers.now f }
+        ensures right { (m : Moment) (f : File) → Holds self.now m → self.now.map.used ≡ true → file_of self.now.map.id m.settled ≡ Some f →
+            IsRight self.now.geometry (N.bytes self.now.nor.now) self.now.map self.now.numbers.now f }
     {
         let map = self.map;
         if map.used && i < map.spans(self.numbers) {
@@ -281,11 +286,15 @@ impl<'b, N: Nor> Volume<'b, N> {
         ensures stage { self.new.stage ≡ self.old.stage }
         ensures map { self.new.map ≡ self.old.map }
         ensures numbers { self.new.numbers.now ≡ self.old.numbers.now }
-        ensures once { N.device_reads self.new.nor.now ≤ N.device_reads self.old.nor.now + pages_met (body self.old.geometry) at (given self.old.map.size at (length into.old)) }
+        ensures once { N.device_reads self.new.nor.now
+            ≤ N.device_reads self.old.nor.now + pages_met (body self.old.geometry) at (given self.old.map.size at (length into.old)) }
         ensures none { self.old.map.used ≡ false → result ≡ Err MapErr.NoMap }
-        ensures apart { self.old.map.used ≡ true → covers self.old.geometry self.old.map self.old.numbers.now at (length into.old) ≡ false → result ≡ Err MapErr.NotMapped }
+        ensures apart { self.old.map.used ≡ true → covers self.old.geometry self.old.map self.old.numbers.now at (length into.old) ≡ false →
+            result ≡ Err MapErr.NotMapped }
         ensures cause { why_not result ≡ Some (MapErr.Call FsErr.DeviceFault) → Rose (N.faults self.old.nor.now) (N.faults self.new.nor.now) }
-        ensures told { N.tells self.old.nor.now → (f : File) → IsFileOf self.old.geometry (N.bytes self.old.nor.now) self.old.map.id f → self.old.map.used ≡ true → covers self.old.geometry self.old.map self.old.numbers.now at (length into.old) ≡ true →
+        ensures differs { (d : Differ) → why_not result ≡ Some (MapErr.Call (FsErr.Damaged d)) → d.wanted ≢ d.found }
+        ensures told { N.tells self.old.nor.now → (f : File) → IsFileOf self.old.geometry (N.bytes self.old.nor.now) self.old.map.id f →
+            self.old.map.used ≡ true → covers self.old.geometry self.old.map self.old.numbers.now at (length into.old) ≡ true →
             GivesOrFault result (λ n. IsRead f at into.old into.new n) }
     {
         let map = self.map;

@@ -50,6 +50,7 @@ fn fill_on<N: Nor>(
     ensures looks { OnlyReads N.NorState nor.old nor.new }
     ensures numbers { IfOk result (λ found. IfSome found (λ map. (map.used ≡ true) × (map.id ≡ id) × (map.first ≡ first))) }
     ensures told { N.tells nor.old → IfOk result (Fills g (N.bytes nor.old) id numbers.new) }
+    ensures counted { counted.new ≡ counted.old }
     ensures table { counted.new ≡ true → HasTable N.NorState g nor.new rows.new }
 {
     let mut v = View {
@@ -82,11 +83,13 @@ impl<'b, N: Nor> Volume<'b, N> {
         ensures held { self.new.held ≡ self.old.held }
         ensures window { self.new.window.now ≡ self.old.window.now }
         ensures stage { self.new.stage ≡ self.old.stage }
+        ensures counted { self.new.counted ≡ self.old.counted }
         ensures room { length self.new.numbers.now ≡ length self.old.numbers.now }
         ensures lost { self.new.map.used ≡ false → Rose (N.faults self.old.nor.now) (N.faults self.new.nor.now) ⊎ HasNoHeader self.new id }
         ensures is { self.new.map.used ≡ true → (self.new.map.id ≡ id) × (self.new.map.first ≡ first) }
         ensures done { OnOk result (self.new.map.used ≡ true) }
-        ensures why { IfErr result (λ why. (self.new.map.used ≡ false) × (((why ≡ FsErr.DeviceFault) × Rose (N.faults self.old.nor.now) (N.faults self.new.nor.now)) ⊎ ((why ≡ FsErr.NotFound) × HasNoHeader self.new id))) }
+        ensures why { IfErr result (λ why. (self.new.map.used ≡ false) × (((why ≡ FsErr.DeviceFault)
+            × Rose (N.faults self.old.nor.now) (N.faults self.new.nor.now)) ⊎ ((why ≡ FsErr.NotFound) × HasNoHeader self.new id))) }
     {
         let g = self.geometry;
         let work = &mut *self.work;
@@ -125,10 +128,12 @@ impl<'b, N: Nor> Volume<'b, N> {
         ensures held { self.new.held ≡ self.old.held }
         ensures window { self.new.window.now ≡ self.old.window.now }
         ensures stage { self.new.stage ≡ self.old.stage }
+        ensures counted { self.new.counted ≡ self.old.counted }
         ensures room { length self.new.numbers.now ≡ length self.old.numbers.now }
         ensures still { self.old.map.used ≡ true → self.new ≡ self.old }
         ensures none { was.used ≡ false → self.new ≡ self.old }
-        ensures lost { was.used ≡ true → self.new.map.used ≡ false → (takes_calls self.old ≡ false) ⊎ (Rose (N.faults self.old.nor.now) (N.faults self.new.nor.now) ⊎ HasNoHeader self.new was.id) }
+        ensures lost { was.used ≡ true → self.new.map.used ≡ false →
+            (takes_calls self.old ≡ false) ⊎ (Rose (N.faults self.old.nor.now) (N.faults self.new.nor.now) ⊎ HasNoHeader self.new was.id) }
         ensures is { self.old.map.used ≡ false → self.new.map.used ≡ true → (self.new.map.id ≡ was.id) × (self.new.map.first ≡ was.first) }
     {
         if self.map.used || !was.used || self.stage != Stage::Checked {

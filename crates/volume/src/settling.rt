@@ -50,7 +50,8 @@ fn settle_on<N: Nor>(
     ensures few { FewReads N.NorState g nor.old cache.old nor.new cache.new }
     ensures faults { N.faults nor.old ≤ N.faults nor.new }
     ensures asked { result.wrote ≡ true → Rose (N.device_writes nor.old) (N.device_writes nor.new) }
-    ensures writes { (f : File) → WritesOn N.NorState g held.now.id held.now.start (take held.now.taken bytes.now) f nor.old nor.new result.wrote result.result }
+    ensures writes { (f : File) →
+        WritesOn N.NorState g held.now.id held.now.start (take held.now.taken bytes.now) f nor.old nor.new result.wrote counted.old counted.new result.result }
     ensures table { counted.new ≡ true → HasTable N.NorState g nor.new rows.new }
 {
     let mut v = View {

@@ -63,7 +63,8 @@ fn space_on<N: Nor>(
 impl<'b, N: Nor> Volume<'b, N> {
     // What is free on the chip of a volume that takes calls.
     fn space_of_blocks(&mut self) -> Result<Space, FsErr>
-        ensures told { (m : Moment) → takes_calls self.old ≡ true → Holds self.old m → IfOk result (λ space. IsSpace self.old.geometry (N.bytes self.old.nor.now) space) }
+        ensures told { (m : Moment) → takes_calls self.old ≡ true → Holds self.old m →
+            IfOk result (λ space. IsSpace self.old.geometry (N.bytes self.old.nor.now) space) }
         ensures refused { IfErr result (λ why. why ≡ FsErr.DeviceFault) }
         ensures cause { result ≡ Err FsErr.DeviceFault → Rose (N.faults self.old.nor.now) (N.faults self.new.nor.now) }
         ensures unchanged { Unchanged self.old self.new }
@@ -81,7 +82,8 @@ impl<'b, N: Nor> Volume<'b, N> {
     /// What is free on the chip, counted block by block: written bytes that wait are not on it, and go on waiting. Refused is `Failed`,
     /// also where the volume wasn't checked. `DeviceFault` changes nothing.
     pub fn space(&mut self) -> Result<Space, FsErr>
-        ensures told { (m : Moment) → takes_calls self.old ≡ true → Holds self.old m → IfOk result (λ space. IsSpace self.old.geometry (N.bytes self.old.nor.now) space) }
+        ensures told { (m : Moment) → takes_calls self.old ≡ true → Holds self.old m →
+            IfOk result (λ space. IsSpace self.old.geometry (N.bytes self.old.nor.now) space) }
         ensures refused { takes_calls self.old ≡ true → IfErr result (λ why. why ≡ FsErr.DeviceFault) }
         ensures cause { result ≡ Err FsErr.DeviceFault → Rose (N.faults self.old.nor.now) (N.faults self.new.nor.now) }
         ensures closed { takes_calls self.old ≡ false → (result ≡ Err FsErr.Failed) × (self.new ≡ self.old) }

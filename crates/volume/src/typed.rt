@@ -1,6 +1,7 @@
 ghost use Rattle.std.specs.Prelude.{◌≡◌, length, min};
 ghost use Rattle.table_model.specs.Reply.{Fine, Tells as Number, Shows, Counts};
-ghost use Rattle.table_model.specs.Ask.{Creates, Opens, Reads, Writes, Seeks, Truncates, Flushes, Closes, Removes, RemovesOpen, Renames, Stats, StatsOpen, NextAbove, Informs, Collects, SetsMeta, SetsMetaOpen};
+ghost use Rattle.table_model.specs.Ask.{Creates, Opens, Reads, Writes, Seeks, Truncates, Flushes, Closes, Removes, RemovesOpen, Renames, Stats, StatsOpen};
+ghost use Rattle.table_model.specs.Ask.{NextAbove, Informs, Collects, SetsMeta, SetsMetaOpen};
 ghost use Rattle.fd_table.specs.Slots.{descriptors, open_at};
 ghost use Rattle.file_calls.specs.Replies.{shown_or_end};
 ghost use Rattle.volume.specs.Replies.{told, as_read, offset_of};

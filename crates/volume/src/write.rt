@@ -7,8 +7,9 @@ ghost use Rattle.table_model.specs.Descriptors.{appends as the_appends, is_direc
 ghost use Rattle.table_model.specs.Window.{page_end};
 ghost use Rattle.write_window.specs.Runs.{start_of, bytes_of};
 ghost use Rattle.write_window.specs.Shown.{run_in};
-ghost use Rattle.volume.specs.Acts.{Acts};
+ghost use Rattle.volume.specs.Acts.{ActsQuietly};
 ghost use Rattle.file_calls.specs.Replies.{reply_of};
+ghost use Rattle.file_calls.specs.Goes.{StandsOn};
 
 use crate::{Told, Volume};
 use fd_table::{FdSlot, open_slot, put};
@@ -61,7 +62,9 @@ pub(crate) fn write_in<N: Nor>(
     ensures same { IsSameView v.old v.new }
     ensures size { length kept.new ≡ length kept.old }
     ensures held { held.new.taken ≤ length kept.new }
-    ensures acts { (into : List ℕ) → Acts N.NorState v.old.geometry (Writes fd bytes.now) v.old.nor.now v.new.nor.now slots.old slots.new (run_in held.new kept.new) v.new.wrote (reply_of result into) }
+    ensures acts { (into : List ℕ) → ActsQuietly N.NorState v.old.geometry (Writes fd bytes.now) v.old.nor.now v.new.nor.now slots.old slots.new
+        (run_in held.new kept.new) v.new.wrote (reply_of result into) }
+    ensures counted { (into : List ℕ) → StandsOn N.NorState v.old.geometry v.old.nor.now slots.old (reply_of result into) v.old.counted v.new.counted }
 {
     let slot = opened(slots, fd)?;
     if !slot.flags.may_write() {
@@ -90,7 +93,8 @@ pub(crate) fn write_in<N: Nor>(
 
 // Where a write through a descriptor begins, in bytes of its file, that goes on with what waits.
 fn next_place(held: &Held, slot: &FdSlot) -> u64
-    ensures { (bytes : List ℕ) → held.now.taken ≤ length bytes → result ≡ (if the_appends slot.now.flags then start_of (run_in held.now bytes) + length (bytes_of (run_in held.now bytes)) else slot.now.offset) }
+    ensures { (bytes : List ℕ) → held.now.taken ≤ length bytes →
+        result ≡ (if the_appends slot.now.flags then start_of (run_in held.now bytes) + length (bytes_of (run_in held.now bytes)) else slot.now.offset) }
 {
     if slot.flags.appends() {
         held.end()
@@ -108,8 +112,8 @@ impl<'b, N: Nor> Volume<'b, N> {
     ghost use Rattle.volume.specs.Extends.{GoesOnAt};
     ghost use Rattle.volume.specs.Calls.{Calls};
 
-    /// The slot of a descriptor through which a write of `len` bytes goes on with what waits: it begins where that ends, and lies in its
-    /// data page.
+    /// The slot of a descriptor through which a write of `len` bytes goes on with what waits: it may write, begins where that ends, and
+    /// lies in its data page.
     pub(crate) fn open_run(&self, fd: u16, len: usize) -> Option<FdSlot>
         ensures on { IfSome result (GoesOnAt self.now fd len) }
         ensures apart { result ≡ None → (bytes : List ℕ) → length bytes ≡ len → GoesOnNot self.now (Writes fd bytes) }
@@ -117,6 +121,9 @@ impl<'b, N: Nor> Volume<'b, N> {
         let Ok(slot) = open_slot(self.slots, fd) else {
             return None;
         };
+        if !slot.flags.may_write() {
+            return None;
+        }
         let at = next_place(&self.held, &slot);
         if !self.held.accepts(self.geometry.body(), fd, at, len) {
             return None;

@@ -5,7 +5,8 @@ use Rattle.geometry.specs.declared.magic.MagicKind.TheVariants.{Plain, Length}
 use Rattle.image_model.specs.Places.{has_magic}
 use Rattle.image_model.specs.Kinds.{spoiled_blocks}
 
--- A volume may begin at each multiple of 4,096 bytes. Its page is a power of two from 128 to 4,096, as every volume's is, its block one from 4,096 to 262,144, and an erase unit is a block.
+-- A volume may begin at each multiple of 4,096 bytes. Its page is a power of two from 128 to 4,096, as every volume's is, its block one from 4,096 to 262,144,
+-- and an erase unit is a block.
 pub record IsPlace (at : ℕ) (g : Geometry) : Type 0 where
   pub whole : at % 4096 ≡ 0
   pub page : (i : ℕ) × (i < 6) × (g.page ≡ 128 * 2 ^ i)
@@ -34,12 +35,14 @@ pub record IsTail (file : List ℕ) (at : ℕ) (g : Geometry) (more : ℕ) (h : 
   pub magics : spoiled_blocks h (drop (at - more * g.block) file) ≤ 1
   pub first : has_magic h (drop (at - more * g.block) file) 0 ≡ true
 
--- Its last block has its magic, and there is no longer row from that byte on of which that is so. (A gap at the end would be no gap: what lies behind a volume may be anything.)
+-- Its last block has its magic, and there is no longer row from that byte on of which that is so. (A gap at the end would be no gap:
+-- what lies behind a volume may be anything.)
 pub record IsLongest (file : List ℕ) (at : ℕ) (g : Geometry) : Type 0 where
   pub last : has_magic g (drop at file) (g.blocks - 1) ≡ true
   pub most : (h : Geometry) → SameBlocks g h → IsRow file at h → has_magic h (drop at file) (h.blocks - 1) ≡ true → h.blocks ≤ g.blocks
 
--- A volume that the file may hold from that byte on. Where the magic tells the length, the first two blocks tell how many blocks there are; else as many as there may be.
+-- A volume that the file may hold from that byte on. Where the magic tells the length, the first two blocks tell how many blocks there are;
+-- else as many as there may be.
 pub record IsCandidate (file : List ℕ) (at : ℕ) (g : Geometry) : Type 0 where
   pub place : IsPlace at g
   pub row : IsRow file at g

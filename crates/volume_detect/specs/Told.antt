@@ -24,12 +24,14 @@ pub record EndsMarked (words : List ℕ) (first step : ℕ) (g : Geometry) : Typ
 
 -- the one volume with the magic of its length, or none
 abbrev pub TellsLength : List ℕ → (first step page block room : ℕ) → Option Geometry → Type 0
-TellsLength words first step page block room (Some g) = IsIn page block room Length g × (g.meta ≡ 0) × IsRowOf words first step g × ((h : Geometry) → IsIn page block room Length h → IsRowOf words first step h → h.blocks ≡ g.blocks)
+TellsLength words first step page block room (Some g) = IsIn page block room Length g × (g.meta ≡ 0) × IsRowOf words first step g
+    × ((h : Geometry) → IsIn page block room Length h → IsRowOf words first step h → h.blocks ≡ g.blocks)
 TellsLength words first step page block room None = (h : Geometry) → IsIn page block room Length h → IsRowOf words first step h → ⊥
 
 -- the longest volume with the plain magic, or none
 abbrev pub TellsPlain : List ℕ → (first step page block room : ℕ) → Option Geometry → Type 0
-TellsPlain words first step page block room (Some g) = IsIn page block room Plain g × (g.meta ≡ 0) × EndsMarked words first step g × ((h : Geometry) → IsIn page block room Plain h → EndsMarked words first step h → h.blocks ≤ g.blocks)
+TellsPlain words first step page block room (Some g) = IsIn page block room Plain g × (g.meta ≡ 0) × EndsMarked words first step g
+    × ((h : Geometry) → IsIn page block room Plain h → EndsMarked words first step h → h.blocks ≤ g.blocks)
 TellsPlain words first step page block room None = (h : Geometry) → IsIn page block room Plain h → EndsMarked words first step h → ⊥
 
 -- a volume of so many blocks, or none

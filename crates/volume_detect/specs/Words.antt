@@ -2,7 +2,8 @@
 use Rattle.std.specs.Prelude.{ℕ, ◌≡◌, ◌+◌, ◌-◌, ◌*◌, ◌/◌, ◌%◌, ◌^◌, ◌<◌, List, length}
 use Rattle.nor_core.specs.Flash.{word_at}
 
--- The lookup pages of a block take 128, 256, 512, 1024, 2048 or 4096 bytes at its front, and the magic is the last word of these but one. So each unit of 4,096 bytes has six words that may be one: where word `i` of them all stands.
+-- The lookup pages of a block take 128, 256, 512, 1024, 2048 or 4096 bytes at its front, and the magic is the last word of these but one.
+-- So each unit of 4,096 bytes has six words that may be one: where word `i` of them all stands.
 abbrev pub word_place : ℕ → ℕ
 word_place i = 4096 * (i / 6) + 128 * 2 ^ (i % 6) - 4
 

@@ -91,7 +91,8 @@ module _ {N X : Type 0} {nor : NorOf N} where
 
   -- or from a place of the next file to another
   abbrev pub WritesFrom : FolderOf X → (count at next : ℕ) (old new : Volume N nor) (was now : X) → Type 0
-  WritesFrom folder count at next old new was now = (g : Geometry) (slots : ℕ) → HasBegun folder g slots was count at old → HasBegun folder g slots now count next new
+  WritesFrom folder count at next old new was now = (g : Geometry) (slots : ℕ) → HasBegun folder g slots was count at old →
+      HasBegun folder g slots now count next new
 
   abbrev pub StopsWriting : FolderOf X → (count at : ℕ) (old : Volume N nor) (was : X) → PutErr → Type 0
   StopsWriting folder count at old was why = (g : Geometry) (slots : ℕ) → HasBegun folder g slots was count at old → IsFault why
@@ -112,7 +113,8 @@ module _ {N : Type 0} {nor : NorOf N} where
       (fd ≡ 1) × IsReady g new (begun_state g slots files (record { name = name; bytes = [] }))
 
   abbrev pub StopsBeginning : (name : List ℕ) (old : Volume N nor) → PutErr → Type 0
-  StopsBeginning name old why = (g : Geometry) (slots : ℕ) (files : List FolderFile) → IsNew g slots files name → IsReady g old (put_state g slots files) → IsFault why
+  StopsBeginning name old why = (g : Geometry) (slots : ℕ) (files : List FolderFile) → IsNew g slots files name →
+      IsReady g old (put_state g slots files) → IsFault why
 
   -- how full a volume is was told, which stands where it stood
   abbrev pub TellsFrom : (old new : Volume N nor) → Info → Type 0

@@ -12,7 +12,8 @@ pub record ReadsEqual (g : Geometry) (image : List ℕ) (whole first last : ℕ)
   pub equal : (h : Geometry) → SameBut g h → first < h.meta → h.meta ≤ last → length (table_of h image) ≡ whole
   pub end : (h : Geometry) → SameBut g h → h.meta ≡ last + 1 → length (table_of h image) ≡ whole → ⊥
 
--- The first number is the least of those by which most files are whole, and by these the fewest ids are damaged. By each up to the last as many are whole, and not by the next one.
+-- The first number is the least of those by which most files are whole, and by these the fewest ids are damaged.
+-- By each up to the last as many are whole, and not by the next one.
 pub record IsRange (g : Geometry) (image : List ℕ) (range : MetaRange) : Type 0 where
   pub counts : CountsBy g image range.first range.counts
   pub most : (h : Geometry) → SameBut g h → length (table_of h image) ≤ range.counts.whole

@@ -74,7 +74,7 @@ module _ {N : Type 0} {nor : NorOf N} where
           stands = ran.stands;
           room = room_after g m ask ready.room;
           state_is = after_state g true m ask ∙ ap (λ (t : State). (answer g true t ask).next) ready.state_is;
-          trim = subst (λ (h : Geometry). Trims h (nor.bytes old.nor.now) (nor.bytes new.nor.now)) ready.geometry (calls.trims.now (holds_at ready).tells m (holds_at ready).image) ready.trim;
+          trim = subst (λ (h : Geometry). Trims h (nor.bytes old.nor.now) (nor.bytes new.nor.now)) ready.geometry (calls.upkeep.now (holds_at ready).tells m (holds_at ready).image).trims ready.trim;
         };
       }
 

@@ -61,7 +61,10 @@ module _ {N : Type 0} {nor : NorOf N} where
     pub cause : reply ≡ Refuses DeviceFault → Rose (nor.faults old.nor.now) (nor.faults new.nor.now)
     pub differs : (d : Differ) → reply ≡ Refuses (Damaged d) → d.wanted ≢ d.found
     pub undamaged : (g : Geometry) (s : State) → IsAtRest g old s → (d : Differ) → reply ≡ Refuses (Damaged d) → ⊥
-    pub cuts : Changes nor old.nor.now new.nor.now (λ was image. (g : Geometry) (s : State) → IsAtRest g old s → IsSafe g was image × IsAmong (table_of g image) (s.table ∷ steps g true s ask))
-    pub answers : (g : Geometry) (s : State) → IsAtRest g old s → IsQuiet g s ask → ¬ (reply ≡ Refuses DeviceFault) → (reply ≡ (answer g true s ask).answer) × IsAtRest g new (answer g true s ask).next
+    pub cuts : Changes nor old.nor.now new.nor.now
+        (λ was image. (g : Geometry) (s : State) → IsAtRest g old s → IsSafe g was image × IsAmong (table_of g image) (s.table ∷ steps g true s ask))
+    pub answers : (g : Geometry) (s : State) → IsAtRest g old s → IsQuiet g s ask → ¬ (reply ≡ Refuses DeviceFault) →
+        (reply ≡ (answer g true s ask).answer) × IsAtRest g new (answer g true s ask).next
     pub looks : is_change ask ≡ false → (memory old).run ≡ None → OnlyReads nor old.nor.now new.nor.now
-    pub refused : (g : Geometry) (s : State) → IsAtRest g old s → IsQuiet g s ask → ¬ (reply ≡ Refuses DeviceFault) → is_refusal reply ≡ true → OnlyReads nor old.nor.now new.nor.now
+    pub refused : (g : Geometry) (s : State) → IsAtRest g old s → IsQuiet g s ask → ¬ (reply ≡ Refuses DeviceFault) → is_refusal reply ≡ true →
+        OnlyReads nor old.nor.now new.nor.now

@@ -1,5 +1,6 @@
 -- The turns of a soak on the flat table, and its summary.
-use Rattle.std.specs.Prelude.{ℕ, zero, suc, ◌+◌, ◌-◌, List, [], ◌∷◌, ◌++◌, length, replicate, min, codes, decimal, Bool, true, false, not, Option, Some, None, if◌then◌else◌, sum_by}
+use Rattle.std.specs.Prelude.{ℕ, zero, suc, ◌+◌, ◌-◌, List, [], ◌∷◌, ◌++◌, length, replicate, min, codes, decimal, Bool, true, false, not, Option, Some, None}
+use Rattle.std.specs.Prelude.{if◌then◌else◌, sum_by}
 use Rattle.geometry.specs.declared.geometry.Geometry.{Geometry}
 use Rattle.nor_core.specs.Draws.{drawn}
 use Rattle.table_model.specs.Table.{File, State}
@@ -74,7 +75,8 @@ bytes_in files = sum_by (λ f. length f.bytes) files
 -- the line of a summary
 abbrev pub summary_text : (turns ok files bytes : ℕ) → List ℕ
 summary_text turns ok files bytes =
-    (codes "turns " ++ decimal turns) ++ (codes " ok " ++ decimal ok) ++ (codes " refused " ++ decimal (turns - ok)) ++ (codes " files " ++ decimal files) ++ (codes " bytes " ++ decimal bytes) ++ (10 ∷ [])
+    (codes "turns " ++ decimal turns) ++ (codes " ok " ++ decimal ok) ++ (codes " refused " ++ decimal (turns - ok)) ++ (codes " files " ++ decimal files)
+    ++ (codes " bytes " ++ decimal bytes) ++ (10 ∷ [])
 
 -- the line of a soak on a volume without files
 abbrev pub soak_text : Geometry → (slots seed turns : ℕ) → List ℕ

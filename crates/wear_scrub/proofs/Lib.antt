@@ -1,3 +1,2 @@
-pub mod NextCounts
 pub mod Found
 pub mod Steps

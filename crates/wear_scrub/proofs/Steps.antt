@@ -21,7 +21,7 @@ use Rattle.block_gc.specs.Cleanings.{CanCleanBlock, CleanedBlock, cleaning_block
 use Rattle.block_gc.proofs.Replacing.{tidy_keeps}
 use Rattle.wear_scrub.specs.declared.scrubs.Scrub.TheVariants.{Moved}
 use Rattle.wear_scrub.specs.Scrubs.{IsPick, Moves, ScrubCut, scrubbing}
-use Rattle.wear_scrub.proofs.NextCounts.{next_rises}
+use Rattle.trim_laws.proofs.NextCounts.{next_rises}
 
 -- ---- the victim
 

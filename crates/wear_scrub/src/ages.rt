@@ -73,7 +73,8 @@ pub(crate) fn all_ages<N: Nor>(v: &mut View<'_, N>) -> Result<Ages, Failed>
     ensures looks { OnlyLooks v.old v.new }
     ensures quick { IsByRows v.old v.new result }
     ensures below { IfOk result (λ found. IsBelow v.old.geometry.blocks found.oldest) }
-    ensures told { N.tells v.old.nor.now → IsTidy v.old.geometry (N.bytes v.old.nor.now) → IfOk result (λ found. AreAges v.old.geometry (N.bytes v.old.nor.now) found) }
+    ensures told { N.tells v.old.nor.now → IsTidy v.old.geometry (N.bytes v.old.nor.now) →
+        IfOk result (λ found. AreAges v.old.geometry (N.bytes v.old.nor.now) found) }
 {
     let entries = v.geometry.entries();
     let next = next_count(v)?;

@@ -50,7 +50,8 @@ pub fn scrub_pick<N: Nor>(v: &mut View<'_, N>, limit: u16) -> Result<Scrub, Fail
     ensures looks { OnlyLooks v.old v.new }
     ensures quick { IsByRows v.old v.new result }
     ensures below { IfOk result (λ picked. IsInside v.old.geometry.blocks picked) }
-    ensures told { N.tells v.old.nor.now → IsTidy v.old.geometry (N.bytes v.old.nor.now) → IfOk result (λ picked. IsPick v.old.geometry (N.bytes v.old.nor.now) limit picked) }
+    ensures told { N.tells v.old.nor.now → IsTidy v.old.geometry (N.bytes v.old.nor.now) →
+        IfOk result (λ picked. IsPick v.old.geometry (N.bytes v.old.nor.now) limit picked) }
 {
     Ok(pick(&all_ages(v)?, limit))
 }
@@ -61,7 +62,8 @@ pub fn scrub_pick<N: Nor>(v: &mut View<'_, N>, limit: u16) -> Result<Scrub, Fail
 pub fn scrub_step<N: Nor>(v: &mut View<'_, N>, limit: u16) -> Result<Scrub, StepErr>
     ensures step { Stepped stopped v.old v.new result (scrubbing limit) }
     ensures rest { IfOk result (λ scrub. IsRest scrub → OnlyReads N.NorState v.old.nor.now v.new.nor.now) }
-    ensures few { N.tells v.old.nor.now → IsTidy v.old.geometry (N.bytes v.old.nor.now) → IfOk result (λ scrub. N.device_writes v.new.nor.now ≤ N.device_writes v.old.nor.now + most_programs v.old.geometry (N.bytes v.old.nor.now) scrub) }
+    ensures few { N.tells v.old.nor.now → IsTidy v.old.geometry (N.bytes v.old.nor.now) →
+        IfOk result (λ scrub. N.device_writes v.new.nor.now ≤ N.device_writes v.old.nor.now + most_programs v.old.geometry (N.bytes v.old.nor.now) scrub) }
 {
     match scrub_pick(v, limit) {
         Err(Failed) => Err(StepErr::DeviceFault),

@@ -2,7 +2,7 @@
 
 use liverymenhir::geometry::MagicKind;
 use rattle_host::prelude::String;
-use spiffs::front_words::{Asked, Given, Preset, Refusal, Slot, Word, given_for, is_own, place, read_line};
+use spiffs::front_words::{Asked, Given, Preset, Refusal, Slot, Word, first_given, given_for, is_own, place, read_line};
 
 pub fn words(line: &str) -> std::vec::Vec<String> {
     line.split_whitespace().map(|word| String::from(std::string::String::from(word))).collect()
@@ -228,6 +228,9 @@ fn names_behind_two_dashes_may_begin_with_one() {
     assert_eq!(place(&words("ls - -p 1 x"), 2), Some(b"x".as_slice()));
     assert!(matches!(given_for(&words("--create=a=b i"), Slot::Create), Given::Once(b"a=b")));
     assert!(matches!(given_for(&words("ls i"), Slot::Page), Given::Nothing));
+    assert_eq!(first_given(&words("ls --one i --two"), Slot::Unknown), Some(b"--one".as_slice()));
+    assert_eq!(first_given(&words("ls i -p"), Slot::NoValue), Some(b"-p".as_slice()));
+    assert_eq!(first_given(&words("ls i"), Slot::Unknown), None);
 }
 
 #[test]

@@ -85,13 +85,29 @@ fn a_preset_of_a_file_asks_for_no_look_at_it() {
 }
 
 #[test]
+fn a_volume_past_the_reach_is_refused() {
+    let line = |at: u32, size: u32| asked(&format!("ls i --for esp-idf --at {at} -s {size}"));
+    let last = 0xFFFF_F000;
+    assert_eq!(settle(&line(last, 4096), 0, &[]), Err(Unsettled::TooFar { at: last, end: 1 << 32 }));
+    assert_eq!(settle(&line(last - 4096, 4096), 0, &[]), Ok(Volume { at: last - 4096, blocks: 1, ..VOLUME }));
+    assert_eq!(settle(&line(last, last), 0, &[]), Err(Unsettled::TooFar { at: last, end: 2 * u64::from(last) }));
+    let far = Candidate { at: last, ..FOUND };
+    assert_eq!(settle(&asked("ls i"), 0, &[far]), Err(Unsettled::TooFar { at: last, end: u64::from(last) + 65_536 }));
+    let why = settle(&line(last, 8192), 0, &[]).expect_err("too far");
+    assert_eq!(
+        format!("{why}"),
+        "the volume from byte 4294963200 on ends at byte 4294971392, and the most is 4294967295: give a lower --at or --size"
+    );
+}
+
+#[test]
 fn the_top_call_gets_its_words() {
     for (line, wanted) in [
         ("ls i", "list 256 4096 16 4 len i"),
         ("pack f i", "make 256 4096 16 4 len i"),
         ("gen 64K f i", "make 256 4096 16 4 len i"),
         ("unpack i f", "extract 256 4096 16 4 len i"),
-        ("cat i n", "extract 256 4096 16 4 len i"),
+        ("cat i n", "list 256 4096 16 4 len i"),
         ("fsck i", "check 256 4096 16 4 len i"),
         ("rm i n", "run 256 4096 16 4 len i"),
         ("df i", "run 256 4096 16 4 len i"),

@@ -1,40 +1,69 @@
-use Rattle.std.proofs.Common.{◌≡◌, [], sym, subst, rules, Err, arith, ap, length}
-use Rattle.geometry.specs.declared.geometry.Geometry.{Geometry}
-use Rattle.flash_view.proofs.Stepped.{passes, stepped_then}
-use Rattle.block_gc.specs.Batches.{AreEntries}
-use Rattle.block_gc.proofs.BatchEnds.{first_begins, first_then, carried_on}
+use Rattle.std.proofs.Common.{◌≡◌, refl, arith, rules, Err}
+use Rattle.flash_view.proofs.Looking.{looks_none}
+use Rattle.flash_view.proofs.Stepped.{looked, weaker, passes, stepped_then}
+use Rattle.block_gc.proofs.BatchCalls.{part_begin, part_pass, part_on, part_ends}
+use Rattle.block_gc.proofs.BatchEnds.{first_begins, first_stays}
+use Rattle.block_gc.proofs.BatchRuns.{in_block, first_below}
+use Rattle.image_model.specs.Within.{block_number}
 use Rattle.block_gc.proofs.batch.carry_all.Goals as goal
 
-pub returns-in_err-carry-clause-step : goal.returns-in_err-carry-clause-step
-returns-in_err-carry-clause-step g c =
+pub behind-page-end-requires : goal.behind-page-end-requires
+behind-page-end-requires g c = rw c.requires.at at (block_number c.args.v.now.geometry c.args.first c.requires.first.below)
+
+pub loop-page-init : goal.loop-page-init
+loop-page-init g c =
     let a = c.args in
-    let is : c.from_residual.result ≡ Err c.in_err-carry.field-0.0 = search rules in
-    let items = c.carry.new.carried.items in
-    passes (c.in_err-carry.ensures.step (g.N.NorState.bytes a.v.now.nor.now) a.most) is (λ tells can. first_begins _ _ a.block a.most a.batch a.page a.span can a.carried.now.items items items c.requires.none)
+    record {
+      from = omega arith;
+      end = c.behind-page-end.ensures;
+      most = (first_below a.v.now.geometry a.block a.first c.requires.first c.requires.at);
+      run = omega arith;
+      few = omega arith;
+      step = λ span. looked (looks_none a.v.now) (λ e. absurd (cc)) tt (λ tells can. (first_stays _ _ a.block a.most a.batch a.first span can, first_begins _ _ a.block a.most a.batch a.first span can _ refl refl));
+    }
+
+pub carry_turn-requires-clause-page : goal.carry_turn-requires-clause-page
+carry_turn-requires-clause-page g c =
+    let so_far = c.loop-page.invariant in
+    let here = in_block c.args.v.now.geometry c.args.block c.args.first c.loop-page.page c.requires.first c.requires.at so_far.from (omega (arith, so_far.end, c.loop-page-test.true)) in
+    rw (so_far.step 0).framed.same.geometry here.0
+
+pub loop-page-preserved : goal.loop-page-preserved
+loop-page-preserved g c =
+    let so_far = c.loop-page.invariant in
+    let a = c.args in
+    let here = in_block a.v.now.geometry a.block a.first c.loop-page.page c.requires.first c.requires.at so_far.from (omega (arith, so_far.end, c.loop-page-test.true)) in
+    record {
+      from = omega (arith, so_far.from);
+      end = so_far.end;
+      most = omega (arith, so_far.end, c.loop-page-test.true);
+      run = c.in_ok-run.ensures.end;
+      few = omega (arith, so_far.few, c.in_ok-run.ensures.few);
+      step = λ span. stepped_then (so_far.step span) (c.in_ok-run.ensures.step (g.N.NorState.bytes a.v.now.nor.now) a.first)
+          (λ tells need. part_begin _ _ a.block a.most a.batch a.first span _ _ need)
+          (λ tells need s. part_on _ _ _ a.block a.most a.batch a.first span c.loop-page.page c.loop-page.run s here.1 so_far.from);
+    }
+
+pub returns-in_err-run-clause-step : goal.returns-in_err-run-clause-step
+returns-in_err-run-clause-step g c = λ span.
+    let so_far = c.loop-page.invariant in
+    let a = c.args in
+    let here = in_block a.v.now.geometry a.block a.first c.loop-page.page c.requires.first c.requires.at so_far.from (omega (arith, so_far.end, c.loop-page-test.true)) in
+    let is : c.from_residual.result ≡ Err c.in_err-run.field-0.0 = search rules in
+    passes
+    (stepped_then (so_far.step span) (c.in_err-run.ensures.step (g.N.NorState.bytes a.v.now.nor.now) a.first)
+    (λ tells need. part_begin _ _ a.block a.most a.batch a.first span _ _ need)
+    (λ tells need s. part_on _ _ _ a.block a.most a.batch a.first span c.loop-page.page c.loop-page.run s here.1 so_far.from))
+    is (λ tells need. part_pass _ _ a.block a.most a.batch a.first span _ need)
 
 pub returns-clause-step : goal.returns-clause-step
-returns-clause-step g c =
+returns-clause-step g c = λ span.
+    let so_far = c.loop-page.invariant in
     let a = c.args in
-    let first = g.N.NorState.bytes a.v.now.nor.now in
-    let mid = c.carry.new.carried.items in
-    let new = c.carry_rest.new.carried.items in
-    stepped_then (c.in_ok-carry.ensures.step first a.most) (c.carry_rest.ensures.step first)
-    (λ tells can. first_begins _ _ a.block a.most a.batch a.page a.span can a.carried.now.items mid new c.requires.none)
-    (λ tells can done. first_then _ _ a.block a.most a.batch a.page a.span can _ a.carried.now.items mid new c.requires.none done)
+    weaker (so_far.step span) (λ tells need. part_ends _ _ a.block a.most a.batch a.first span c.loop-page.page (omega (arith, so_far.end, c.loop-page-test.false)) need)
 
-pub carry_rest-requires-clause-block : goal.carry_rest-requires-clause-block
-carry_rest-requires-clause-block g c = rw (c.carry.ensures.step [] 0).framed.same.geometry c.requires.block
-
-pub carry_rest-requires-clause-pages : goal.carry_rest-requires-clause-pages
-carry_rest-requires-clause-pages g c = subst (λ (k : Geometry). AreEntries k c.carry.new.carried.items) (sym (c.carry.ensures.step [] 0).framed.same.geometry) c.carry.ensures.pages
-
-pub returns-clause-pages : goal.returns-clause-pages
-returns-clause-pages g c = subst (λ (k : Geometry). AreEntries k c.carry_rest.new.carried.items) (c.carry.ensures.step [] 0).framed.same.geometry c.carry_rest.ensures.pages
-
-pub returns-in_err-carry-clause-few : goal.returns-in_err-carry-clause-few
-returns-in_err-carry-clause-few g c = let is : c.from_residual.result ≡ Err c.in_err-carry.field-0.0 = search rules in rw is tt
+pub returns-clause-end : goal.returns-clause-end
+returns-clause-end g c = let so_far = c.loop-page.invariant in omega (arith, so_far.run, so_far.most, so_far.end)
 
 pub returns-clause-few : goal.returns-clause-few
-returns-clause-few g c =
-    let l = ap length c.requires.none in
-    carried_on _ _ _ _ _ _ c.carry_rest.ensures.few (omega (arith, c.in_ok-carry.ensures.few, l))
+returns-clause-few g c = c.loop-page.invariant.few

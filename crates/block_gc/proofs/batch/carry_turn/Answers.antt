@@ -1,44 +1,61 @@
+use Rattle.std.proofs.Common.{◌≡◌, refl, arith, inr, rules, Err}
 use Rattle.flash_view.proofs.Looking.{looks_none}
-use Rattle.std.proofs.Common.{refl, sym, ◌∙◌, arith, inr}
-use Rattle.flash_view.proofs.Stepped.{looked, after_look}
-use Rattle.block_gc.proofs.BatchCalls.{carry_stays, turn_idle, turn_ends, of_still}
-use Rattle.std.proofs.lemmas.Bool.{eqb-true}
-use Rattle.std.proofs.lemmas.List.{length-reverse}
-use Rattle.block_gc.proofs.batch.carry_turn.Goals.{then-page-first-via-then-page-first, then-page-first-via-else-page-first+then-is_full, then-page-first-via-else-page-first+else-is_full+then-len-most}
+use Rattle.flash_view.proofs.Stepped.{looked, passes, ends_as}
+use Rattle.block_gc.proofs.BatchCalls.{carry_stays, after_looks, turn_idle, turn_begins, turn_ends, of_still}
+use Rattle.block_gc.proofs.BatchRuns.{page_few}
 use Rattle.block_gc.proofs.batch.carry_turn.Goals as goal
 
-pub returns-then-page-first-clause-step : goal.returns-then-page-first-clause-step
-returns-then-page-first-clause-step g c = λ was. looked (looks_none c.args.v.now) (λ e. absurd (cc)) tt (λ tells need. (
-  carry_stays _ was _ c.args.block c.args.most c.args.batch _ need.0.so_far,
-  turn_idle _ was _ c.args.block c.args.most c.args.batch c.args.first c.args.page _ (λ span here above of.
-      let l = length-reverse c.args.carried.now.items in
-      elim c.then-page-first.branch [
-        | then-page-first-via-then-page-first w ↦ absurd (omega (arith, above, w.if-page-first.true))
-        | then-page-first-via-else-page-first+then-is_full w ↦ let full = eqb-true _ 64 (sym w.is_full.ensures.value ∙ w.if-is_full.true) in inr (omega (arith, l, full))
-        | then-page-first-via-else-page-first+else-is_full+then-len-most w ↦ inr (omega (arith, l, w.if-len-most.true, w.len.ensures.value))
-      ]) need.0,
-))
+pub with_one-requires-clause-page : goal.with_one-requires-clause-page
+with_one-requires-clause-page g c = page_few c.args.v.now.geometry c.args.page c.requires.page.below
+
+pub returns-then-run-most-clause-step : goal.returns-then-run-most-clause-step
+returns-then-run-most-clause-step g c = λ was first.
+    let a = c.args in
+    looked (looks_none a.v.now) (λ e. absurd (cc)) tt (λ tells need. (
+      carry_stays _ was _ a.block a.most a.batch need.0.0 need.0.1.copies.so_far,
+      (need.0.0, turn_idle _ was _ a.block a.most a.batch first a.page a.run need.0.0 (λ span here of. let many = need.0.1.copies.run_is.many in inr (omega (arith, many, c.if-run-most.true))) need.0.1),
+    ))
 
 pub returns-in-Err-clause-step : goal.returns-in-Err-clause-step
-returns-in-Err-clause-step g c = λ was. let seen = c.in-Err.ensures in looked seen.looks (λ e. seen.cause) tt (λ tells need. (carry_stays _ was _ c.args.block c.args.most c.args.batch _ need.0.so_far, refl))
+returns-in-Err-clause-step g c = λ was first.
+    let seen = c.in-Err.ensures in
+    looked seen.looks (λ e. seen.cause) tt (λ tells need. (carry_stays _ was _ c.args.block c.args.most c.args.batch need.0.0 need.0.1.copies.so_far, refl))
 
 pub returns-in-Ok-None-clause-step : goal.returns-in-Ok-None-clause-step
-returns-in-Ok-None-clause-step g c = λ was. let seen = c.in-Ok-None.ensures in looked seen.looks (λ e. absurd (cc)) tt (λ tells need. (carry_stays _ was _ c.args.block c.args.most c.args.batch _ need.0.so_far, turn_idle _ was _ c.args.block c.args.most c.args.batch c.args.first c.args.page _ (λ span here above of. absurd (rw c.in-Ok-None.field-0-is at (seen.told tells) span (of_still _ was _ c.args.block c.args.most c.args.batch _ need.0.so_far c.args.page span of))) need.0))
+returns-in-Ok-None-clause-step g c = λ was first.
+    let a = c.args in
+    let seen = c.in-Ok-None.ensures in
+    looked seen.looks (λ e. absurd (cc)) tt (λ tells need. (
+      carry_stays _ was _ a.block a.most a.batch need.0.0 need.0.1.copies.so_far,
+      (
+        need.0.0,
+        turn_idle _ was _ a.block a.most a.batch first a.page a.run need.0.0
+            (λ span here of. absurd (rw c.in-Ok-None.field-0-is at (seen.told tells) span (of_still _ was _ a.block a.most a.batch need.0.0 need.0.1.copies.so_far a.page span of))) need.0.1,
+      ),
+    ))
 
-pub returns-in-Ok-Some-clause-step : goal.returns-in-Ok-Some-clause-step
-returns-in-Ok-Some-clause-step g c = λ was.
+pub returns-in_err-to-in-Ok-Some-clause-step : goal.returns-in_err-to-in-Ok-Some-clause-step
+returns-in_err-to-in-Ok-Some-clause-step g c = λ was first.
     let a = c.args in
     let seen = c.in-Ok-Some.ensures in
-    after_look seen.looks (c.carry.ensures.step was a.most) (λ tells need. turn_ends _ was _ a.block a.most a.batch a.first a.page a.carried.now.items need.0 c.carry.new.carried.items c.in-Ok-Some.span need.1 (omega (arith, c.if-page-first.false)) (omega (arith, c.if-len-most.false, c.len.ensures.value)) (rw c.in-Ok-Some.field-0-is at (seen.told tells)))
+    let is : c.from_residual.result ≡ Err c.in_err-to-in-Ok-Some.field-0.0 = search rules in
+    passes (after_looks seen.looks (c.in_err-to-in-Ok-Some.ensures.step was a.most)) is
+    (λ tells need. turn_begins _ was _ a.block a.most a.batch first a.page a.run c.requires.end need (omega (arith, c.if-run-most.false)) c.in-Ok-Some.span (rw c.in-Ok-Some.field-0-is at (seen.told tells)))
 
-pub returns-then-page-first-clause-few : goal.returns-then-page-first-clause-few
-returns-then-page-first-clause-few g c = omega arith
+pub returns-in_ok-to-in-Ok-Some-clause-step : goal.returns-in_ok-to-in-Ok-Some-clause-step
+returns-in_ok-to-in-Ok-Some-clause-step g c = λ was first.
+    let a = c.args in
+    let seen = c.in-Ok-Some.ensures in
+    ends_as (after_looks seen.looks (c.in_ok-to-in-Ok-Some.ensures.step was a.most))
+    (λ tells need. turn_begins _ was _ a.block a.most a.batch first a.page a.run c.requires.end need (omega (arith, c.if-run-most.false)) c.in-Ok-Some.span (rw c.in-Ok-Some.field-0-is at (seen.told tells)))
+    (λ tells need done. turn_ends _ was _ a.block a.most a.batch first a.page a.run c.requires.end need (omega (arith, c.if-run-most.false)) c.in-Ok-Some.span (rw c.in-Ok-Some.field-0-is at (seen.told tells))
+    _ _ c.with_one.result c.with_one.ensures.end c.with_one.ensures.count done)
 
-pub returns-in-Err-clause-few : goal.returns-in-Err-clause-few
-returns-in-Err-clause-few g c = tt
+pub returns-then-run-most-clause-few : goal.returns-then-run-most-clause-few
+returns-then-run-most-clause-few g c = omega arith
 
 pub returns-in-Ok-None-clause-few : goal.returns-in-Ok-None-clause-few
 returns-in-Ok-None-clause-few g c = omega (arith, c.in-Ok-None.ensures.looks.reads.writes)
 
-pub returns-in-Ok-Some-clause-few : goal.returns-in-Ok-Some-clause-few
-returns-in-Ok-Some-clause-few g c = rw c.in-Ok-Some.ensures.looks.reads.writes at c.carry.ensures.few
+pub returns-in_ok-to-in-Ok-Some-clause-few : goal.returns-in_ok-to-in-Ok-Some-clause-few
+returns-in_ok-to-in-Ok-Some-clause-few g c = omega (arith, c.in-Ok-Some.ensures.looks.reads.writes, c.in_ok-to-in-Ok-Some.ensures.few, c.with_one.ensures.count)

@@ -1,7 +1,5 @@
-use Rattle.std.proofs.Common.{◌≡◌, [], sym, subst, rules, Err, arith}
-use Rattle.geometry.specs.declared.geometry.Geometry.{Geometry}
+use Rattle.std.proofs.Common.{◌≡◌, [], rules, Err, arith}
 use Rattle.flash_view.proofs.Stepped.{passes, stepped_then, fault_as, done_as}
-use Rattle.block_gc.specs.Batches.{AreEntries}
 use Rattle.block_gc.proofs.BatchEnds.{ending_begins, ending_then}
 use Rattle.block_gc.proofs.batch.end_batch.Goals as goal
 
@@ -9,24 +7,30 @@ pub returns-in_err-rename-clause-step : goal.returns-in_err-rename-clause-step
 returns-in_err-rename-clause-step g c = λ was most.
     let a = c.args in
     let is : c.from_residual.result ≡ Err c.in_err-rename.field-0.0 = search rules in
-    passes (c.in_err-rename.ensures.step was most) is (λ tells need. ending_begins _ was _ a.block most a.batch a.page a.carried.now.items c.as_slice.result.now c.as_slice.ensures.value need)
+    passes (c.in_err-rename.ensures.step was most) is (λ tells need. ending_begins _ was _ a.block most a.batch a.first a.run need)
 
 pub returns-in-Err-clause-step : goal.returns-in-Err-clause-step
 returns-in-Err-clause-step g c = λ was most.
     let a = c.args in
-    fault_as (stepped_then (c.in_ok-rename.ensures.step was most) (c.in-Err.ensures.step was a.block most a.page)
-    (λ tells need. ending_begins _ was _ a.block most a.batch a.page a.carried.now.items c.as_slice.result.now c.as_slice.ensures.value need)
-    (λ tells need drops. ending_then _ was _ _ a.block most a.batch a.page a.carried.now.items c.as_slice.result.now c.as_slice.ensures.value drops))
+    fault_as (stepped_then (c.in_ok-rename.ensures.step was most) (c.in-Err.ensures.step was most)
+    (λ tells need. ending_begins _ was _ a.block most a.batch a.first a.run need)
+    (λ tells need drops. ending_then _ was _ _ a.block most a.batch a.first a.run need drops))
 
 pub returns-in-Ok-clause-step : goal.returns-in-Ok-clause-step
 returns-in-Ok-clause-step g c = λ was most.
     let a = c.args in
-    done_as (stepped_then (c.in_ok-rename.ensures.step was most) (c.in-Ok.ensures.step was a.block most a.page)
-    (λ tells need. ending_begins _ was _ a.block most a.batch a.page a.carried.now.items c.as_slice.result.now c.as_slice.ensures.value need)
-    (λ tells need drops. ending_then _ was _ _ a.block most a.batch a.page a.carried.now.items c.as_slice.result.now c.as_slice.ensures.value drops))
+    done_as (stepped_then (c.in_ok-rename.ensures.step was most) (c.in-Ok.ensures.step was most)
+    (λ tells need. ending_begins _ was _ a.block most a.batch a.first a.run need)
+    (λ tells need drops. ending_then _ was _ _ a.block most a.batch a.first a.run need drops))
 
-pub drop_all-requires : goal.drop_all-requires
-drop_all-requires g c = record { pages = subst (λ (k : Geometry). AreEntries k c.args.carried.now.items) (sym (c.in_ok-rename.ensures.step [] 0).framed.same.geometry) c.requires.pages }
+pub drop_all-requires-clause-first : goal.drop_all-requires-clause-first
+drop_all-requires-clause-first g c = rw (c.in_ok-rename.ensures.step [] 0).framed.same.geometry c.requires.first
+
+pub drop_all-requires-clause-at : goal.drop_all-requires-clause-at
+drop_all-requires-clause-at g c = rw (c.in_ok-rename.ensures.step [] 0).framed.same.geometry c.requires.at
+
+pub drop_all-requires-clause-end : goal.drop_all-requires-clause-end
+drop_all-requires-clause-end g c = rw (c.in_ok-rename.ensures.step [] 0).framed.same.geometry c.requires.end
 
 pub returns-in_err-rename-clause-few : goal.returns-in_err-rename-clause-few
 returns-in_err-rename-clause-few g c = omega (arith, c.in_err-rename.ensures.few)

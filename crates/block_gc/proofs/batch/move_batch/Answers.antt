@@ -1,8 +1,7 @@
 use Rattle.std.proofs.Common.{refl}
-use Rattle.flash_view.proofs.Heads.{entry_page_told}
 use Rattle.flash_view.proofs.Stepped.{looked, after_look, view_image}
 use Rattle.block_gc.proofs.BatchEnds.{batch_found, found_is}
-use Rattle.block_gc.proofs.IndexOut.{turn_stays, block_low}
+use Rattle.block_gc.proofs.IndexOut.{turn_stays}
 use Rattle.block_gc.proofs.batch.move_batch.Goals as goal
 
 pub returns-in-Err-clause-step : goal.returns-in-Err-clause-step
@@ -18,14 +17,9 @@ pub returns-in-Ok-Some-clause-step : goal.returns-in-Ok-Some-clause-step
 returns-in-Ok-Some-clause-step g c =
     let a = c.args in
     let seen = c.in-Ok-Some.ensures in
-    after_look seen.looks c.move_from.ensures.step
+    after_look seen.looks (c.move_from.ensures.step c.in-Ok-Some.tag.span)
     (λ tells need. batch_found _ _ a.block a.most a.page c.in-Ok-Some.index c.index_span.result c.in-Ok-Some.tag (view_image a.v.now (g.met.N.Nor.sized _) tells) c.requires.at c.requires.most need
     (found_is _ _ _ _ _ _ c.in-Ok-Some.field-0-is (seen.told tells need.can.tidy need.is_data)) (rw seen.looks.same.geometry at c.index_span.ensures))
-
-pub move_from-requires-clause-block : goal.move_from-requires-clause-block
-move_from-requires-clause-block g c =
-    let geometry = c.args.v.now.geometry in
-    rw c.in-Ok-Some.ensures.looks.same.geometry (block_low geometry c.args.block c.args.page (entry_page_told geometry c.args.page c.requires.page) c.requires.at)
 
 pub returns-in-Err-clause-few : goal.returns-in-Err-clause-few
 returns-in-Err-clause-few g c = λ tells can none. tt
@@ -39,4 +33,4 @@ returns-in-Ok-Some-clause-few g c = λ tells can none.
     let seen = c.in-Ok-Some.ensures in
     let found = batch_found _ _ a.block a.most a.page c.in-Ok-Some.index c.index_span.result c.in-Ok-Some.tag (view_image a.v.now (g.met.N.Nor.sized _) tells) c.requires.at c.requires.most can
     (found_is _ _ _ _ _ _ c.in-Ok-Some.field-0-is (seen.told tells can.can.tidy can.is_data)) (rw seen.looks.same.geometry at c.index_span.ensures) in
-    let few = rw (seen.looks.same.geometry, seen.looks.reads.bytes, seen.looks.reads.writes) at (c.move_from.ensures.few (seen.looks.reads.told tells)) in few found.needs none
+    let few = rw (seen.looks.same.geometry, seen.looks.reads.bytes, seen.looks.reads.writes) at (c.move_from.ensures.few c.in-Ok-Some.tag.span (seen.looks.reads.told tells)) in few found.needs none

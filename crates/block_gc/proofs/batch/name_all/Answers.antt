@@ -1,21 +1,39 @@
-use Rattle.std.proofs.Common.{refl, get_or}
-use Rattle.std.proofs.lemmas.List.{take_more}
-use Rattle.block_gc.proofs.BatchCalls.{rebuilt_none, rebuilt_then, all_taken, names_on}
-use Rattle.block_gc.specs.Batches.{AreNamed}
+use Rattle.std.proofs.Common.{◌≡◌, [], refl, sym, subst, arith, List, take, ℕ, length}
+use Rattle.flash_view.proofs.Looking.{looks_none, looks_then}
+use Rattle.block_gc.specs.Batches.{Carried, AreNamed}
+use Rattle.block_gc.proofs.BatchFinds.{names_begin, names_end}
+use Rattle.block_gc.proofs.BatchRuns.{in_block}
 use Rattle.block_gc.proofs.batch.name_all.Goals as goal
 
-pub loop-c-init : goal.loop-c-init
-unfolding AreNamed
-loop-c-init g c = record { rebuilt = rebuilt_none c.args.v.now; named = refl }
+pub loop-page-init : goal.loop-page-init
+loop-page-init g c = record {
+  from = omega arith;
+  end = refl;
+  looks = looks_none c.args.v.now;
+  told = λ tells was most cs has. names_begin _ was _ c.args.block most c.args.batch c.args.first c.args.run cs has _;
+}
 
-pub loop-c-preserved : goal.loop-c-preserved
-loop-c-preserved g c =
-    let was = c.loop-c.invariant in
+pub name_turn-requires-clause-page : goal.name_turn-requires-clause-page
+name_turn-requires-clause-page g c =
+    let so_far = c.loop-page.invariant in
+    let here = in_block c.args.v.now.geometry c.args.block c.args.first c.loop-page.page c.requires.first c.requires.at so_far.from (omega (arith, so_far.end, c.loop-page-test.true, c.requires.end)) in
+    rw so_far.looks.same.geometry here.0.below
+
+pub loop-page-preserved : goal.loop-page-preserved
+loop-page-preserved g c =
+    let so_far = c.loop-page.invariant in
+    let a = c.args in
+    let here = in_block a.v.now.geometry a.block a.first c.loop-page.page c.requires.first c.requires.at so_far.from (omega (arith, so_far.end, c.loop-page-test.true, c.requires.end)) in
     record {
-      rebuilt = rebuilt_then was.rebuilt c.name_page.ensures.rebuilt;
-      named = names_on _ _ c.args.carried.now c.loop-c.c-index (get_or c.args.carried.now c.loop-c.c-index (record { from = 0; to = 0; span = 0 })) _ _
-          (take_more c.args.carried.now c.loop-c.c-index (record { from = 0; to = 0; span = 0 }) c.loop-c-test.true) was.named (rw was.rebuilt.geometry at c.name_page.ensures.named);
+      from = omega (arith, so_far.from);
+      end = so_far.end;
+      looks = looks_then so_far.looks c.in_ok-near.ensures.looks;
+      told = λ tells was most cs has.
+          let turn = rw (so_far.looks.same.geometry, so_far.looks.reads.bytes) at (c.in_ok-near.ensures.told (so_far.looks.reads.told tells)) in
+          turn was (take a.v.now.geometry.page a.v.now.work.now) most a.first a.run cs has (record { at = here.1; from = so_far.from; before = omega (arith, so_far.end, c.loop-page-test.true) }) (so_far.told tells was most cs has);
     }
 
-pub returns : goal.returns
-returns g c = let was = c.loop-c.invariant in record { rebuilt = was.rebuilt; named = all_taken _ _ _ c.loop-c.c-index _ c.loop-c-test.false was.named }
+pub returns-clause-told : goal.returns-clause-told
+returns-clause-told g c = λ tells was most cs has.
+    let so_far = c.loop-page.invariant in
+    names_end _ was _ c.args.block most c.args.batch c.args.first c.args.run cs has c.loop-page.page _ _ (omega (arith, so_far.end, c.loop-page-test.false)) (so_far.told tells was most cs has)

@@ -1,5 +1,5 @@
 use Rattle.std.proofs.Common.{◌≡◌, refl, rules, Ok, Err, arith}
-use Rattle.flash_view.specs.Steps.{Stepped, stopped}
+use Rattle.flash_view.specs.Steps.{Stepped, stopped, any_image}
 use Rattle.flash_view.proofs.Looking.{looks_then}
 use Rattle.flash_view.proofs.Stepped.{looked, after_look, passes, stepped_then, acted, fault_as, done_as, view_image, image_after}
 use Rattle.page_put.specs.Fresh.{Freshens, IsFresh}
@@ -32,7 +32,7 @@ returns-in-Err-clause-step g c =
     let block = c.args.block in
     let last = c.in-Err.ensures in
     let first : Stepped stopped c.args.v.now c.empty_block.new.v (Ok tt) (emptying block c.longest_batch.result) = after_look both c.in_ok-empty_block.ensures.step (λ tells need. record { needs = need; cut = λ d cut. cut; done = λ d ok done. done }) in
-    fault_as (stepped_then first (acted (λ h. Freshens h block) (λ h. IsFresh h block c.in-Ok-next_count.count) last.same last.wrote last.cause last.changes last.done)
+    fault_as (stepped_then first (acted any_image (λ h. Freshens h block c.in-Ok-next_count.count) (λ h. IsFresh h block c.in-Ok-next_count.count) last.same last.wrote last.cause last.changes last.done (λ any. last.counted))
     (λ tells can. empties _ _ _ _ (view_image c.args.v.now (g.met.N.Nor.sized _) tells) c.requires (longest _ _ _ _ _ can.tidy c.requires (one.looks.told tells) c.longest_batch.ensures) can)
     (λ tells can empty. freshens _ _ _ block c.in-Ok-next_count.count (view_image c.args.v.now (g.met.N.Nor.sized _) tells) (image_after g.met.N.Nor.sized first tells) c.requires
     (rw (one.looks.only.same.geometry, one.looks.only.reads.bytes) at (two.looks.told (one.looks.only.reads.told tells))) can empty))
@@ -45,7 +45,7 @@ returns-in-Ok-fresh_block-clause-step g c =
     let block = c.args.block in
     let last = c.in-Ok-fresh_block.ensures in
     let first : Stepped stopped c.args.v.now c.empty_block.new.v (Ok tt) (emptying block c.longest_batch.result) = after_look both c.in_ok-empty_block.ensures.step (λ tells need. record { needs = need; cut = λ d cut. cut; done = λ d ok done. done }) in
-    done_as (stepped_then first (acted (λ h. Freshens h block) (λ h. IsFresh h block c.in-Ok-next_count.count) last.same last.wrote last.cause last.changes last.done)
+    done_as (stepped_then first (acted any_image (λ h. Freshens h block c.in-Ok-next_count.count) (λ h. IsFresh h block c.in-Ok-next_count.count) last.same last.wrote last.cause last.changes last.done (λ any. last.counted))
     (λ tells can. empties _ _ _ _ (view_image c.args.v.now (g.met.N.Nor.sized _) tells) c.requires (longest _ _ _ _ _ can.tidy c.requires (one.looks.told tells) c.longest_batch.ensures) can)
     (λ tells can empty. freshens _ _ _ block c.in-Ok-next_count.count (view_image c.args.v.now (g.met.N.Nor.sized _) tells) (image_after g.met.N.Nor.sized first tells) c.requires
     (rw (one.looks.only.same.geometry, one.looks.only.reads.bytes) at (two.looks.told (one.looks.only.reads.told tells))) can empty))

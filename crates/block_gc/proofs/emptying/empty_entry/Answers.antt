@@ -42,7 +42,7 @@ returns-in-Ok-Some-Index-clause-few g c = λ tells can none.
     let seen = c.in-Ok-Some-Index.ensures in
     let index = rw (c.in-Ok-Some-Index.field-0-is, c.in-Ok-Some-Index.field-0-0-is) at (seen.told tells) in
     let low = block_low geometry a.block a.page (entry_page_told geometry a.page c.requires.page) c.requires.at in
-    let falls : Stepped stopped a.v.now c.move_index_out.new.v c.move_index_out.result (falling a.block (min 64 a.most) a.page) = after_look seen.looks c.move_index_out.ensures.step (λ tells need. index_falls _ _ a.block (min 64 a.most) a.page need) in
+    let falls : Stepped stopped a.v.now c.move_index_out.new.v c.move_index_out.result (falling a.block a.most a.page) = after_look seen.looks c.move_index_out.ensures.step (λ tells need. index_falls _ _ a.block a.most a.page need) in
     if_ok c.move_index_out.result stopped.fault _
     (SixEach geometry a.block a.most (g.N.NorState.bytes a.v.now.nor.now) (g.N.NorState.bytes c.move_index_out.new.v.nor.now) (g.N.NorState.device_writes a.v.now.nor.now) (g.N.NorState.device_writes c.move_index_out.new.v.nor.now))
     (falls.ends tells (low, can, c.requires.at, index)) (λ less. omega (arith, less, seen.looks.reads.writes, c.move_index_out.ensures.few))

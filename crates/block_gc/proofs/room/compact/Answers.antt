@@ -14,3 +14,12 @@ returns-in-Ok-true-clause-tight g c = λ tells t says. rw c.in-Ok-true.field-0-t
 
 pub returns-in-Ok-true-clause-never_tight : goal.returns-in-Ok-true-clause-never_tight
 returns-in-Ok-true-clause-never_tight g c = λ tells can says. never_stuck_there _ _ _ can (rw c.in-Ok-true.field-0-test at (c.in-Ok-true.ensures.ends tells can.tidy))
+
+pub returns-in-Err-clause-stands : goal.returns-in-Err-clause-stands
+returns-in-Err-clause-stands g c = λ tells t stood. tt
+
+pub returns-in-Ok-false-clause-stands : goal.returns-in-Ok-false-clause-stands
+returns-in-Ok-false-clause-stands g c = λ tells t stood. c.in-Ok-false.ensures.stands tells t stood
+
+pub returns-in-Ok-true-clause-stands : goal.returns-in-Ok-true-clause-stands
+returns-in-Ok-true-clause-stands g c = λ tells t stood. c.in-Ok-true.ensures.stands tells t stood

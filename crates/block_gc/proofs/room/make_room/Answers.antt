@@ -18,3 +18,12 @@ returns-in-Ok-false-clause-never_tight g c = λ tells can room says. never_tight
 
 pub returns-in-Ok-false-clause-mended : goal.returns-in-Ok-false-clause-mended
 returns-in-Ok-false-clause-mended g c = λ tells can no_index no_pages says. mended _ _ _ _ _ can no_index no_pages (rw c.in-Ok-false.field-0-test at (c.in-Ok-false.ensures.step.ends tells can.tidy))
+
+pub returns-in-Err-clause-stands : goal.returns-in-Err-clause-stands
+returns-in-Err-clause-stands g c = λ tells t stood. tt
+
+pub returns-in-Ok-true-clause-stands : goal.returns-in-Ok-true-clause-stands
+returns-in-Ok-true-clause-stands g c = λ tells t stood. c.in-Ok-true.ensures.step.stands tells t stood
+
+pub returns-in-Ok-false-clause-stands : goal.returns-in-Ok-false-clause-stands
+returns-in-Ok-false-clause-stands g c = λ tells t stood. c.in-Ok-false.ensures.step.stands tells t stood

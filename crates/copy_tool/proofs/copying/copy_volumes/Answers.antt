@@ -26,7 +26,7 @@ returns-in-Ok-say-clause-copies g c =
     let line : c.as_slice.result.now ≡ copied_text c.in-Ok-copy_files.copied.copied c.in-Ok-copy_files.copied.kept = c.as_slice.ensures.value ∙ c.copied_line.ensures in
     copy_said c.in-Ok.damaged c.in-Ok-copy_files.copied c.end_of_copy.result line c.end_of_copy.ensures.ends c.in-Ok.ensures.told (changes_as c.survey.new.from.geometry survey.same.geometry survey.reads c.copy_files.ensures.changes)
     (λ source_tells tells. ends (survey.reads.told source_tells) tells)
-    (λ source_tells tells all. files (survey.reads.told source_tells) tells all) c.say.ensures.says c.say.ensures.cuts c.in-Ok-say.ensures.done
+    (λ source_tells tells all. files (survey.reads.told source_tells) tells all) c.copy_files.ensures.kept c.say.ensures.says c.say.ensures.cuts c.in-Ok-say.ensures.done
 
 pub returns-in-Err-say-clause-copies : goal.returns-in-Err-say-clause-copies
 returns-in-Err-say-clause-copies g c =
@@ -36,7 +36,7 @@ returns-in-Err-say-clause-copies g c =
     let line : c.as_slice.result.now ≡ copied_text c.in-Ok-copy_files.copied.copied c.in-Ok-copy_files.copied.kept = c.as_slice.ensures.value ∙ c.copied_line.ensures in
     copy_broken c.in-Ok.damaged c.in-Ok-copy_files.copied line c.in-Ok.ensures.told (changes_as c.survey.new.from.geometry survey.same.geometry survey.reads c.copy_files.ensures.changes)
     (λ source_tells tells. ends (survey.reads.told source_tells) tells)
-    (λ source_tells tells all. files (survey.reads.told source_tells) tells all) c.say.ensures.says c.say.ensures.cuts
+    (λ source_tells tells all. files (survey.reads.told source_tells) tells all) c.copy_files.ensures.kept c.say.ensures.says c.say.ensures.cuts
 
 pub returns-in-Err-copy_files-clause-same_source : goal.returns-in-Err-copy_files-clause-same_source
 returns-in-Err-copy_files-clause-same_source g c = reader_then c.survey.ensures.same c.copy_files.ensures.same_source

@@ -7,13 +7,13 @@ use Rattle.file_calls.proofs.Going.{goes_by_slots}
 use Rattle.file_calls.proofs.calls.call_in.Goals as goal
 
 pub returns-in-Tell-clause-goes : goal.returns-in-Tell-clause-goes
-returns-in-Tell-clause-goes g c = rw c.in-Tell.is (goes_by_slots (Tells c.in-Tell.fd) c.args.into.now c.args.v.now.wrote c.tell_in.ensures c.requires.fresh (reads_none c.args.v.now.nor.now) refl refl (λ k. refl))
+returns-in-Tell-clause-goes g c = rw c.in-Tell.is (goes_by_slots (Tells c.in-Tell.fd) c.args.into.now c.args.v.now.wrote c.tell_in.ensures c.requires.fresh (reads_none c.args.v.now.nor.now) refl (λ k. refl))
 
 pub returns-in-Flush-clause-goes : goal.returns-in-Flush-clause-goes
-returns-in-Flush-clause-goes g c = rw c.in-Flush.is (goes_by_slots (Flushes c.in-Flush.fd) c.args.into.now c.args.v.now.wrote c.flush_in.ensures c.requires.fresh (reads_none c.args.v.now.nor.now) refl refl (λ k. refl))
+returns-in-Flush-clause-goes g c = rw c.in-Flush.is (goes_by_slots (Flushes c.in-Flush.fd) c.args.into.now c.args.v.now.wrote c.flush_in.ensures c.requires.fresh (reads_none c.args.v.now.nor.now) refl (λ k. refl))
 
 pub returns-in-Close-clause-goes : goal.returns-in-Close-clause-goes
-returns-in-Close-clause-goes g c = rw c.in-Close.is (goes_by_slots (Closes c.in-Close.fd) c.args.into.now c.args.v.now.wrote c.close_in.ensures c.requires.fresh (reads_none c.args.v.now.nor.now) refl refl (λ k. absurd (let no : false ≡ true = k in cc)))
+returns-in-Close-clause-goes g c = rw c.in-Close.is (goes_by_slots (Closes c.in-Close.fd) c.args.into.now c.args.v.now.wrote c.close_in.ensures c.requires.fresh (reads_none c.args.v.now.nor.now) refl (λ k. absurd (let no : false ≡ true = k in cc)))
 
 pub returns-in-Create-clause-goes : goal.returns-in-Create-clause-goes
 returns-in-Create-clause-goes g c = rw c.in-Create.is (c.create_in.ensures.goes c.args.slots.now c.args.into.now)
@@ -59,3 +59,48 @@ returns-in-SetMeta-clause-goes g c = rw c.in-SetMeta.is (c.set_meta.ensures.goes
 
 pub returns-in-FSetMeta-clause-goes : goal.returns-in-FSetMeta-clause-goes
 returns-in-FSetMeta-clause-goes g c = rw c.in-FSetMeta.is (c.set_meta_open.ensures.goes c.args.into.now)
+
+pub returns-in-Create-clause-counted : goal.returns-in-Create-clause-counted
+returns-in-Create-clause-counted g c = c.create_in.ensures.counted c.args.slots.now c.args.into.now
+
+pub returns-in-OpenFile-clause-counted : goal.returns-in-OpenFile-clause-counted
+returns-in-OpenFile-clause-counted g c = c.open_in.ensures.counted c.args.into.now
+
+pub returns-in-Read-clause-counted : goal.returns-in-Read-clause-counted
+returns-in-Read-clause-counted g c = c.read_in.ensures.counted
+
+pub returns-in-Seek-clause-counted : goal.returns-in-Seek-clause-counted
+returns-in-Seek-clause-counted g c = c.seek_in.ensures.counted c.args.into.now
+
+pub returns-in-Truncate-clause-counted : goal.returns-in-Truncate-clause-counted
+returns-in-Truncate-clause-counted g c = c.truncate_in.ensures.counted c.args.into.now
+
+pub returns-in-Remove-clause-counted : goal.returns-in-Remove-clause-counted
+returns-in-Remove-clause-counted g c = c.remove_in.ensures.counted c.args.into.now
+
+pub returns-in-FRemove-clause-counted : goal.returns-in-FRemove-clause-counted
+returns-in-FRemove-clause-counted g c = c.remove_open.ensures.counted c.args.into.now
+
+pub returns-in-Rename-clause-counted : goal.returns-in-Rename-clause-counted
+returns-in-Rename-clause-counted g c = c.rename_in.ensures.counted c.args.slots.now c.args.into.now
+
+pub returns-in-StatName-clause-counted : goal.returns-in-StatName-clause-counted
+returns-in-StatName-clause-counted g c = c.tell_stat.ensures.counted c.args.slots.now c.args.into.now
+
+pub returns-in-FStat-clause-counted : goal.returns-in-FStat-clause-counted
+returns-in-FStat-clause-counted g c = c.tell_open.ensures.counted c.args.into.now
+
+pub returns-in-Next-clause-counted : goal.returns-in-Next-clause-counted
+returns-in-Next-clause-counted g c = c.tell_next.ensures.counted c.args.slots.now c.args.into.now
+
+pub returns-in-GetInfo-clause-counted : goal.returns-in-GetInfo-clause-counted
+returns-in-GetInfo-clause-counted g c = c.tell_info.ensures.counted c.args.slots.now c.args.into.now
+
+pub returns-in-Gc-clause-counted : goal.returns-in-Gc-clause-counted
+returns-in-Gc-clause-counted g c = c.collect_in.ensures.counted c.args.slots.now c.args.into.now
+
+pub returns-in-SetMeta-clause-counted : goal.returns-in-SetMeta-clause-counted
+returns-in-SetMeta-clause-counted g c = c.set_meta.ensures.counted c.args.slots.now c.args.into.now
+
+pub returns-in-FSetMeta-clause-counted : goal.returns-in-FSetMeta-clause-counted
+returns-in-FSetMeta-clause-counted g c = c.set_meta_open.ensures.counted c.args.into.now

@@ -1,4 +1,5 @@
 use Rattle.file_calls.proofs.GcCalls.{gc_done, gc_stuck, gc_broken}
+use Rattle.file_calls.proofs.Standing.{stands_collected, stands_uncollected}
 use Rattle.file_calls.proofs.collecting.collect_in.Goals as goal
 
 pub returns-in-Ok-false-clause-goes : goal.returns-in-Ok-false-clause-goes
@@ -9,3 +10,12 @@ returns-in-Ok-true-clause-goes g c = λ slots into. gc_stuck slots c.requires.fr
 
 pub returns-in-Err-clause-goes : goal.returns-in-Err-clause-goes
 returns-in-Err-clause-goes g c = rw c.failed_as.ensures (λ slots into. gc_broken slots c.requires.fresh c.in-Err.why c.in-Err.ensures)
+
+pub returns-in-Ok-false-clause-counted : goal.returns-in-Ok-false-clause-counted
+returns-in-Ok-false-clause-counted g c = λ slots into. stands_collected slots _ c.in-Ok-false.ensures
+
+pub returns-in-Ok-true-clause-counted : goal.returns-in-Ok-true-clause-counted
+returns-in-Ok-true-clause-counted g c = λ slots into. stands_collected slots _ c.in-Ok-true.ensures
+
+pub returns-in-Err-clause-counted : goal.returns-in-Err-clause-counted
+returns-in-Err-clause-counted g c = rw c.failed_as.ensures (λ slots into. stands_uncollected slots c.in-Err.why c.in-Err.ensures)

@@ -1,4 +1,5 @@
 use Rattle.std.proofs.Common.{◌∙◌, ap, Err}
+use Rattle.trim_laws.proofs.Wears.{cuts_whole}
 use Rattle.block_gc.specs.declared.room.RoomErr.{RoomErr}
 use Rattle.block_gc.specs.declared.room.RoomErr.TheVariants.{Step}
 use Rattle.file_calls.proofs.GcCalls.{view_can, room_cuts, step_fault, step_same}
@@ -12,7 +13,9 @@ returns-in-Ok g c =
       cause = λ is. absurd (cc);
       means = tt;
       cuts = room_cuts c.args.v.now (g.met.N.Nor.sized _) packed.changes;
-      trims = packed.trims;
+      upkeep = packed.upkeep;
+      worn = λ tells tidy. cuts_whole _ _ _ (packed.upkeep.now tells tidy).wears (packed.done tells tidy).tidy.magic;
+      stands = packed.stands;
       ends = λ tells tidy. packed.done tells tidy;
     }
 
@@ -24,7 +27,9 @@ returns-in-Err-Tight g c =
       cause = λ is. absurd (cc);
       means = tt;
       cuts = room_cuts c.args.v.now (g.met.N.Nor.sized _) short.changes;
-      trims = short.trims;
+      upkeep = short.upkeep;
+      worn = λ tells tidy. cuts_whole _ _ _ (short.upkeep.now tells tidy).wears (short.tight tells tidy (ap (λ (w : RoomErr). Err w) c.in-Err-Tight.field-0-is)).tidy.magic;
+      stands = λ tells tidy stood. rw c.in-Err-Tight.field-0-is at (short.stands tells tidy stood);
       ends = λ tells tidy. record { stuck = short.tight tells tidy (ap (λ (w : RoomErr). Err w) c.in-Err-Tight.field-0-is); short = λ reserve. short.never_tight tells (view_can c.args.v.now (g.met.N.Nor.sized _) tells tidy reserve) c.in-Err-Tight.field-0-is };
     }
 
@@ -37,6 +42,8 @@ returns-in-Err-Step g c =
       cause = λ fault. failed.cause (ap (λ (w : RoomErr). Err w) (is ∙ ap Step (step_same c.in-Err-Step.why _ fault)));
       means = rw is at failed.differs;
       cuts = room_cuts c.args.v.now (g.met.N.Nor.sized _) failed.changes;
-      trims = failed.trims;
+      upkeep = failed.upkeep;
+      worn = λ tells tidy. tt;
+      stands = λ tells tidy stood. tt;
       ends = λ tells tidy. step_fault c.in-Err-Step.why (rw is at (failed.undamaged tells tidy));
     }

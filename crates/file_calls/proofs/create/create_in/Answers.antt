@@ -6,6 +6,7 @@ use Rattle.table_model.specs.Ask.{Creates}
 use Rattle.file_calls.proofs.Going.{goes_named, goes_refused, goes_done, goes_broken, goes_stopped}
 use Rattle.file_calls.proofs.Paged.{with_page_had, with_page_not_had}
 use Rattle.file_calls.proofs.NewFiles.{create_refused, created_step}
+use Rattle.file_calls.proofs.Standing.{stands_done, stands_stopped, stands_broken}
 use Rattle.file_calls.proofs.create.create_in.Goals as goal
 
 pub returns-in_err-accept-clause-goes : goal.returns-in_err-accept-clause-goes
@@ -37,11 +38,33 @@ returns-in-Ok-clause-goes g c =
     let looked = c.in_ok-id.ensures in
     let name = c.args.name.now in
     let fine = c.in_ok-accept.ensures.fine in
-    λ slots into. goes_done (Creates name) Fine refl refl fine (created_step c.args.v.now.geometry name fine c.in_ok-id.id (λ tells tidy. (looked.told tells tidy).0) (λ tells tidy. (looked.told tells tidy).1)) looked.looks c.requires.fresh slots refl refl refl (λ bytes e. absurd (cc)) (λ k. refl) (with_page_had c.in_ok-take_page.ensures c.in-Ok.ensures)
+    λ slots into. goes_done (Creates name) Fine refl refl fine (created_step c.args.v.now.geometry name fine c.in_ok-id.id (λ tells tidy. (looked.told tells tidy).0) (λ tells tidy. (looked.told tells tidy).1)) looked.looks c.requires.fresh slots refl refl refl (λ bytes e. absurd (cc)) (λ k. refl) (with_page_had (λ h was image cut reserve. cut.reserve) c.in_ok-take_page.ensures c.in-Ok.ensures.step)
 
 pub returns-in-Err-clause-goes : goal.returns-in-Err-clause-goes
 returns-in-Err-clause-goes g c =
     let looked = c.in_ok-id.ensures in
     let name = c.args.name.now in
     let fine = c.in_ok-accept.ensures.fine in
-    rw c.failed_as.ensures (λ slots into. goes_broken (Creates name) Fine refl refl fine (created_step {slots = slots} c.args.v.now.geometry name fine c.in_ok-id.id (λ tells tidy. (looked.told tells tidy).0) (λ tells tidy. (looked.told tells tidy).1)) looked.looks c.requires.fresh c.in-Err.why refl (with_page_had c.in_ok-take_page.ensures c.in-Err.ensures))
+    rw c.failed_as.ensures (λ slots into. goes_broken (Creates name) Fine refl refl fine (created_step {slots = slots} c.args.v.now.geometry name fine c.in_ok-id.id (λ tells tidy. (looked.told tells tidy).0) (λ tells tidy. (looked.told tells tidy).1)) looked.looks c.requires.fresh c.in-Err.why refl (with_page_had (λ h was image cut reserve. cut.reserve) c.in_ok-take_page.ensures c.in-Err.ensures.step))
+
+pub returns-in_err-take_page-clause-counted : goal.returns-in_err-take_page-clause-counted
+returns-in_err-take_page-clause-counted g c =
+    let p = err_from_is_err_and c.from_residual-in_err-take_page.result c.from_residual-in_err-take_page.ensures.1 in
+    let looked = c.in_ok-id.ensures in
+    let name = c.args.name.now in
+    let fine = c.in_ok-accept.ensures.fine in
+    rw (p.1, p.2) (λ slots into. stands_stopped (created_step {slots = slots} c.args.v.now.geometry name fine c.in_ok-id.id (λ tells tidy. (looked.told tells tidy).0) (λ tells tidy. (looked.told tells tidy).1)) looked.looks c.in_err-take_page.field-0.0 (with_page_not_had c.in_err-take_page.ensures).steps)
+
+pub returns-in-Ok-clause-counted : goal.returns-in-Ok-clause-counted
+returns-in-Ok-clause-counted g c =
+    let looked = c.in_ok-id.ensures in
+    let name = c.args.name.now in
+    let fine = c.in_ok-accept.ensures.fine in
+    λ slots into. stands_done (created_step {slots = slots} c.args.v.now.geometry name fine c.in_ok-id.id (λ tells tidy. (looked.told tells tidy).0) (λ tells tidy. (looked.told tells tidy).1)) looked.looks Fine (with_page_had (λ h was image cut reserve. cut.reserve) c.in_ok-take_page.ensures c.in-Ok.ensures.step).steps
+
+pub returns-in-Err-clause-counted : goal.returns-in-Err-clause-counted
+returns-in-Err-clause-counted g c =
+    let looked = c.in_ok-id.ensures in
+    let name = c.args.name.now in
+    let fine = c.in_ok-accept.ensures.fine in
+    rw c.failed_as.ensures (λ slots into. stands_broken (created_step {slots = slots} c.args.v.now.geometry name fine c.in_ok-id.id (λ tells tidy. (looked.told tells tidy).0) (λ tells tidy. (looked.told tells tidy).1)) looked.looks c.in-Err.why (with_page_had (λ h was image cut reserve. cut.reserve) c.in_ok-take_page.ensures c.in-Err.ensures.step).steps)

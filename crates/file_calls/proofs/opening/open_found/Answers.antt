@@ -9,19 +9,22 @@ use Rattle.table_model.specs.Reply.{Tells as Number}
 use Rattle.table_model.specs.Ask.{Opens}
 use Rattle.image_model.specs.Tables.{table_of}
 use Rattle.file_calls.specs.Replies.{is_change, reads_file}
+use Rattle.fd_table.specs.Slots.{descriptors}
+use Rattle.file_calls.proofs.Numbered.{opens_fine}
 use Rattle.file_calls.proofs.Going.{goes_refused, goes_moved, goes_done, goes_broken, rose_later, looked_back, or_first, or_last}
 use Rattle.file_calls.proofs.Descriptors.{goes_unread}
 use Rattle.file_calls.proofs.Restates.{the_file}
 use Rattle.file_calls.proofs.Cutting.{TellsRoom, ends_true, fails_true, goes_cornered}
 use Rattle.file_calls.proofs.Openings.{is_set, is_clear, opens_there}
 use Rattle.file_calls.proofs.Emptying.{takes_never, opened_missing, opens_empty, empties_refuses, emptied_step}
+use Rattle.file_calls.proofs.Standing.{stands_done, stands_cornered, stands_broken}
 use Rattle.file_calls.proofs.opening.open_found.Goals as goal
 
 pub returns-then-flags-eq0-clause-goes : goal.returns-then-flags-eq0-clause-goes
 returns-then-flags-eq0-clause-goes g c =
     let name = c.args.name.now in
     let keeps : empties c.args.flags ≡ false = is_clear (bit_and c.args.flags 2) c.if-flags-eq0.true in
-    rw c.from.ensures (λ into. goes_moved (Opens name c.args.flags) (Number c.args.fd) c.args.v.now.wrote c.requires.fresh (reads_none c.args.v.now.nor.now) refl c.requires.named refl (lt-ltb c.args.fd 65536 c.ranges.fd.fits) (λ bytes e. absurd (cc)) (λ k. absurd (let no : false ≡ true = k in cc))
+    rw c.from.ensures (λ into. goes_moved (Opens name c.args.flags) (Number c.args.fd) c.args.v.now.wrote c.requires.fresh (reads_none c.args.v.now.nor.now) refl (opens_fine c.args.v.now.geometry (descriptors c.args.slots.now) name c.requires.named c.args.flags c.requires.slot) refl (lt-ltb c.args.fd 65536 c.ranges.fd.fits) (λ bytes e. absurd (cc)) (λ k. absurd (let no : false ≡ true = k in cc))
     (λ s here. rw c.open_at.ensures (opens_there name c.args.flags c.requires.named c.args.fd c.requires.slot c.args.id s here (c.requires.found here.tells here.tidy) (λ f at. takes_never c.args.flags f keeps))))
 
 pub returns-in_err-size-clause-goes : goal.returns-in_err-size-clause-goes
@@ -31,14 +34,14 @@ returns-in_err-size-clause-goes g c =
     let empty : empties c.args.flags ≡ true = is_set (bit_and c.args.flags 2) c.if-flags-eq0.false in
     let change : is_change (Opens name c.args.flags) ≡ true = or_last (makes c.args.flags) (empties c.args.flags) empty in
     let failed = c.in_err-size.ensures in
-    rw (p.1, p.2) (λ into. goes_unread (Opens name c.args.flags) c.in_err-size.field-0.0 c.record_of.new.v.wrote (failed.looks.wrote ∙ c.requires.fresh) failed.looks.reads refl c.requires.named refl (or_first (is_change (Opens name c.args.flags)) (reads_file (Opens name c.args.flags)) change) failed.missed (λ e. failed.cause (ap (λ (w : FsErr). Err w) e))
+    rw (p.1, p.2) (λ into. goes_unread (Opens name c.args.flags) c.in_err-size.field-0.0 c.record_of.new.v.wrote (failed.looks.wrote ∙ c.requires.fresh) failed.looks.reads refl (opens_fine c.args.v.now.geometry (descriptors c.args.slots.now) name c.requires.named c.args.flags c.requires.slot) refl (or_first (is_change (Opens name c.args.flags)) (reads_file (Opens name c.args.flags)) change) failed.missed (λ e. failed.cause (ap (λ (w : FsErr). Err w) e))
     (λ s here no_fault. opened_missing name c.args.flags c.requires.named c.args.fd c.requires.slot c.args.id c.requires.found s here (failed.told here.tells here.tidy no_fault)))
 
 pub returns-then-size-eq0-clause-goes : goal.returns-then-size-eq0-clause-goes
 returns-then-size-eq0-clause-goes g c =
     let name = c.args.name.now in
     let looked = c.in_ok-size.ensures in
-    rw c.from-then-size-eq0.ensures (λ into. goes_moved (Opens name c.args.flags) (Number c.args.fd) c.record_of.new.v.wrote (looked.looks.wrote ∙ c.requires.fresh) looked.looks.reads refl c.requires.named refl (lt-ltb c.args.fd 65536 c.ranges.fd.fits) (λ bytes e. absurd (cc)) (λ k. absurd (let no : false ≡ true = k in cc))
+    rw c.from-then-size-eq0.ensures (λ into. goes_moved (Opens name c.args.flags) (Number c.args.fd) c.record_of.new.v.wrote (looked.looks.wrote ∙ c.requires.fresh) looked.looks.reads refl (opens_fine c.args.v.now.geometry (descriptors c.args.slots.now) name c.requires.named c.args.flags c.requires.slot) refl (lt-ltb c.args.fd 65536 c.ranges.fd.fits) (λ bytes e. absurd (cc)) (λ k. absurd (let no : false ≡ true = k in cc))
     (λ s here. rw c.open_at-then-size-eq0.ensures (opens_empty name c.args.flags c.requires.named c.args.fd c.requires.slot c.args.id c.requires.found c.in_ok-size.field-0 looked.told c.if-size-eq0.true s here)))
 
 pub returns-in_err-have_room-clause-goes : goal.returns-in_err-have_room-clause-goes
@@ -50,7 +53,7 @@ returns-in_err-have_room-clause-goes g c =
     let stat = c.in_ok-size.field-0 in
     let failed = c.in_err-have_room.ensures in
     let looks = looks_then found.looks failed.looks in
-    rw (p.1, p.2) (λ into. goes_refused (Opens name c.args.flags) c.in_err-have_room.field-0.0 c.have_room.new.v.wrote (looks.wrote ∙ c.requires.fresh) looks.reads refl c.requires.named (failed.among name [] c.args.flags 0 0).1 (λ e. rose_later _ _ _ found.looks.same.faults (failed.cause e))
+    rw (p.1, p.2) (λ into. goes_refused (Opens name c.args.flags) c.in_err-have_room.field-0.0 c.have_room.new.v.wrote (looks.wrote ∙ c.requires.fresh) looks.reads refl (opens_fine c.args.v.now.geometry (descriptors c.args.slots.now) name c.requires.named c.args.flags c.requires.slot) (failed.among name [] c.args.flags 0 0).1 (λ e. rose_later _ _ _ found.looks.same.faults (failed.cause e))
     (λ s here no_fault. empties_refuses name c.args.flags c.requires.named c.args.fd c.requires.slot c.args.id c.requires.found stat found.told empty c.if-size-eq0.false
     (looked_back (TellsRoom stat.size 0 (Err c.in_err-have_room.field-0.0)) found.looks failed.told) s here no_fault))
 
@@ -63,7 +66,7 @@ returns-in-Ok-true-clause-goes g c =
     let stat = c.in_ok-size.field-0 in
     let looked = c.in_ok-have_room.ensures in
     let does = emptied_step name c.args.flags c.requires.named c.args.fd c.requires.slot c.args.id c.requires.found stat found.told empty c.if-size-eq0.false (looked_back (TellsRoom stat.size 0 (Ok tt)) found.looks looked.told) in
-    rw c.from-in-Ok-true.ensures (λ into. goes_done (Opens name c.args.flags) (Number c.args.fd) refl change c.requires.named does (looks_then found.looks looked.looks) c.requires.fresh c.open_at-in-Ok-true.new.slots
+    rw c.from-in-Ok-true.ensures (λ into. goes_done (Opens name c.args.flags) (Number c.args.fd) refl change (opens_fine c.args.v.now.geometry (descriptors c.args.slots.now) name c.requires.named c.args.flags c.requires.slot) does (looks_then found.looks looked.looks) c.requires.fresh c.open_at-in-Ok-true.new.slots
     (rw c.pull_file_back.ensures at c.open_at-in-Ok-true.ensures) refl (lt-ltb c.args.fd 65536 c.ranges.fd.fits) (λ bytes e. absurd (cc)) (λ k. absurd (let no : false ≡ true = k in cc))
     (ends_true (rw c.in-Ok-true.field-0-test at (c.in-Ok-true.ensures (the_file c.args.id (table_of c.args.v.now.geometry (g.N.NorState.bytes c.args.v.now.nor.now)))))))
 
@@ -76,7 +79,7 @@ returns-in-Ok-false-clause-goes g c =
     let stat = c.in_ok-size.field-0 in
     let looked = c.in_ok-have_room.ensures in
     let does = emptied_step name c.args.flags c.requires.named c.args.fd c.requires.slot c.args.id c.requires.found stat found.told empty c.if-size-eq0.false (looked_back (TellsRoom stat.size 0 (Ok tt)) found.looks looked.told) in
-    λ into. goes_cornered (Opens name c.args.flags) (Number c.args.fd) refl change empty c.requires.named does (looks_then found.looks looked.looks) c.requires.fresh refl
+    λ into. goes_cornered (Opens name c.args.flags) (Number c.args.fd) refl change empty (opens_fine c.args.v.now.geometry (descriptors c.args.slots.now) name c.requires.named c.args.flags c.requires.slot) does (looks_then found.looks looked.looks) c.requires.fresh refl
     (rw c.in-Ok-false.field-0-test at (c.in-Ok-false.ensures (the_file c.args.id (table_of c.args.v.now.geometry (g.N.NorState.bytes c.args.v.now.nor.now)))))
 
 pub returns-in-Err-clause-goes : goal.returns-in-Err-clause-goes
@@ -88,14 +91,47 @@ returns-in-Err-clause-goes g c =
     let stat = c.in_ok-size.field-0 in
     let looked = c.in_ok-have_room.ensures in
     let does = emptied_step name c.args.flags c.requires.named c.args.fd c.requires.slot c.args.id c.requires.found stat found.told empty c.if-size-eq0.false (looked_back (TellsRoom stat.size 0 (Ok tt)) found.looks looked.told) in
-    rw c.failed_as.ensures (λ into. goes_broken (Opens name c.args.flags) (Number c.args.fd) refl change c.requires.named does (looks_then found.looks looked.looks) c.requires.fresh c.in-Err.why refl
+    rw c.failed_as.ensures (λ into. goes_broken (Opens name c.args.flags) (Number c.args.fd) refl change (opens_fine c.args.v.now.geometry (descriptors c.args.slots.now) name c.requires.named c.args.flags c.requires.slot) does (looks_then found.looks looked.looks) c.requires.fresh c.in-Err.why refl
     (fails_true (c.in-Err.ensures (the_file c.args.id (table_of c.args.v.now.geometry (g.N.NorState.bytes c.args.v.now.nor.now))))))
 
 pub returns-in-Ok-true-clause-same : goal.returns-in-Ok-true-clause-same
-returns-in-Ok-true-clause-same g c = same_then (looks_then c.in_ok-size.ensures.looks c.in_ok-have_room.ensures.looks).same (c.in-Ok-true.ensures (the_file 0 [])).framed.same
+returns-in-Ok-true-clause-same g c = same_then (looks_then c.in_ok-size.ensures.looks c.in_ok-have_room.ensures.looks).same (c.in-Ok-true.ensures (the_file 0 [])).steps.framed.same
 
 pub returns-in-Ok-false-clause-same : goal.returns-in-Ok-false-clause-same
-returns-in-Ok-false-clause-same g c = same_then (looks_then c.in_ok-size.ensures.looks c.in_ok-have_room.ensures.looks).same (c.in-Ok-false.ensures (the_file 0 [])).framed.same
+returns-in-Ok-false-clause-same g c = same_then (looks_then c.in_ok-size.ensures.looks c.in_ok-have_room.ensures.looks).same (c.in-Ok-false.ensures (the_file 0 [])).steps.framed.same
 
 pub returns-in-Err-clause-same : goal.returns-in-Err-clause-same
-returns-in-Err-clause-same g c = same_then (looks_then c.in_ok-size.ensures.looks c.in_ok-have_room.ensures.looks).same (c.in-Err.ensures (the_file 0 [])).framed.same
+returns-in-Err-clause-same g c = same_then (looks_then c.in_ok-size.ensures.looks c.in_ok-have_room.ensures.looks).same (c.in-Err.ensures (the_file 0 [])).steps.framed.same
+
+pub returns-in-Ok-true-clause-counted : goal.returns-in-Ok-true-clause-counted
+returns-in-Ok-true-clause-counted g c =
+    let name = c.args.name.now in
+    let empty : empties c.args.flags ≡ true = is_set (bit_and c.args.flags 2) c.if-flags-eq0.false in
+    let found = c.in_ok-size.ensures in
+    let stat = c.in_ok-size.field-0 in
+    let looked = c.in_ok-have_room.ensures in
+    let does = emptied_step name c.args.flags c.requires.named c.args.fd c.requires.slot c.args.id c.requires.found stat found.told empty c.if-size-eq0.false (looked_back (TellsRoom stat.size 0 (Ok tt)) found.looks looked.told) in
+    let file = the_file c.args.id (table_of c.args.v.now.geometry (g.N.NorState.bytes c.args.v.now.nor.now)) in
+    λ into. stands_done does (looks_then found.looks looked.looks) _ (ends_true (rw c.in-Ok-true.field-0-test at (c.in-Ok-true.ensures file))).steps
+
+pub returns-in-Ok-false-clause-counted : goal.returns-in-Ok-false-clause-counted
+returns-in-Ok-false-clause-counted g c =
+    let name = c.args.name.now in
+    let empty : empties c.args.flags ≡ true = is_set (bit_and c.args.flags 2) c.if-flags-eq0.false in
+    let found = c.in_ok-size.ensures in
+    let stat = c.in_ok-size.field-0 in
+    let looked = c.in_ok-have_room.ensures in
+    let does = emptied_step name c.args.flags c.requires.named c.args.fd c.requires.slot c.args.id c.requires.found stat found.told empty c.if-size-eq0.false (looked_back (TellsRoom stat.size 0 (Ok tt)) found.looks looked.told) in
+    let file = the_file c.args.id (table_of c.args.v.now.geometry (g.N.NorState.bytes c.args.v.now.nor.now)) in
+    λ into. stands_cornered does (looks_then found.looks looked.looks) _ (rw c.in-Ok-false.field-0-test at (c.in-Ok-false.ensures file).steps)
+
+pub returns-in-Err-clause-counted : goal.returns-in-Err-clause-counted
+returns-in-Err-clause-counted g c =
+    let name = c.args.name.now in
+    let empty : empties c.args.flags ≡ true = is_set (bit_and c.args.flags 2) c.if-flags-eq0.false in
+    let found = c.in_ok-size.ensures in
+    let stat = c.in_ok-size.field-0 in
+    let looked = c.in_ok-have_room.ensures in
+    let does = emptied_step name c.args.flags c.requires.named c.args.fd c.requires.slot c.args.id c.requires.found stat found.told empty c.if-size-eq0.false (looked_back (TellsRoom stat.size 0 (Ok tt)) found.looks looked.told) in
+    let file = the_file c.args.id (table_of c.args.v.now.geometry (g.N.NorState.bytes c.args.v.now.nor.now)) in
+    rw c.failed_as.ensures (λ into. stands_broken does (looks_then found.looks looked.looks) c.in-Err.why (fails_true (c.in-Err.ensures file)).steps)

@@ -10,8 +10,10 @@ use Rattle.table_model.specs.Ask.{Reads}
 use Rattle.std.specs.Prelude.{Option}
 use Rattle.table_model.specs.Table.{Open}
 use Rattle.table_model.specs.Descriptors.{put_at}
-use Rattle.fd_table.specs.Slots.{descriptors}
-use Rattle.file_calls.proofs.Going.{goes_refused, goes_moved}
+use Rattle.fd_table.specs.Slots.{descriptors, opened}
+use Rattle.file_calls.specs.Slots.{read_fault}
+use Rattle.file_calls.proofs.Numbered.{read_fine, read_barred}
+use Rattle.file_calls.proofs.Going.{goes_barred, goes_moved}
 use Rattle.file_read.proofs.Going.{fault}
 use Rattle.file_calls.proofs.Descriptors.{read_closed, goes_closed, file_at, whole_file, read_refused, read_gives, held_at, unread_by}
 use Rattle.file_calls.proofs.reading.read_in.Goals as goal
@@ -20,13 +22,13 @@ pub returns-in_err-slot-clause-goes : goal.returns-in_err-slot-clause-goes
 returns-in_err-slot-clause-goes g c =
     let p = err_from_is_err_and c.from_residual.result c.from_residual.ensures.1 in
     let bad = c.in_err-slot.ensures in
-    rw (p.1, p.2, bad.error) (goes_closed (Reads c.args.fd c.args.count) c.args.fd c.args.v.now.wrote c.requires.fresh refl refl refl bad.closed (λ s none. read_closed c.args.v.now.geometry _ s c.args.fd c.args.count none))
+    rw (p.1, p.2, bad.error) (goes_closed (Reads c.args.fd c.args.count) c.args.fd c.args.v.now.wrote c.requires.fresh refl refl (ap read_fault bad.closed) bad.closed (λ s none. read_closed c.args.v.now.geometry _ s c.args.fd c.args.count none))
 
 pub returns-then-not-may_read-clause-goes : goal.returns-then-not-may_read-clause-goes
 returns-then-not-may_read-clause-goes g c =
     let never : may_read c.in_ok-slot.slot.flags ≡ false = sym c.may_read.ensures ∙ c.if-not-may_read.true in
-    goes_refused {T = Unit {0}} (Reads c.args.fd c.args.count) NotReadable c.args.v.now.wrote c.requires.fresh (reads_none c.args.v.now.nor.now) refl refl refl (λ e. absurd (cc))
-    (λ s here no_fault. read_refused c.args.fd c.in_ok-slot.slot c.in_ok-slot.ensures.found c.args.count never s here)
+    goes_barred (Reads c.args.fd c.args.count) NotReadable c.args.v.now.wrote c.requires.fresh (reads_none c.args.v.now.nor.now) refl refl refl (read_barred (opened c.in_ok-slot.slot) c.in_ok-slot.ensures.found never)
+    (λ s here. read_refused c.args.fd c.in_ok-slot.slot c.in_ok-slot.ensures.found c.args.count never s here)
 
 pub returns-in-Ok-clause-goes : goal.returns-in-Ok-clause-goes
 returns-in-Ok-clause-goes g c =
@@ -38,7 +40,7 @@ returns-in-Ok-clause-goes g c =
     let few : c.in-Ok.read ≤ c.args.count = rw lent at read.within.0 in
     let put = c.put.ensures ∙ ap (λ (o : Option Open). put_at (descriptors c.args.slots.now) c.args.fd o) (held_at c.in_ok-slot.slot (c.in_ok-slot.slot.offset + c.in-Ok.read) c.in_ok-slot.ensures.used) in
     rw (take-append-le c.in-Ok.read c.read_file.new.into (drop c.args.count c.args.into.now) (omega (arith, kept, few)))
-    (goes_moved (Reads c.args.fd c.args.count) (Gives (take c.in-Ok.read c.read_file.new.into)) c.read_file.new.v.wrote (read.looks.wrote ∙ c.requires.fresh) read.looks.reads refl refl refl refl
+    (goes_moved (Reads c.args.fd c.args.count) (Gives (take c.in-Ok.read c.read_file.new.into)) c.read_file.new.v.wrote (read.looks.wrote ∙ c.requires.fresh) read.looks.reads refl (read_fine (opened c.in_ok-slot.slot) c.in_ok-slot.ensures.found may) refl refl
     (λ bytes e. let same : take c.in-Ok.read c.read_file.new.into ≡ bytes = cc in record { fd = c.args.fd; count = c.args.count; reads = refl; few = subst (λ (l : List ℕ). length l ≤ c.args.count) same (omega (arith, few, kept, length-take c.in-Ok.read c.read_file.new.into)) })
     (λ k. absurd (let no : false ≡ true = k in cc))
     (λ s here.
@@ -50,7 +52,8 @@ returns-in-Ok-clause-goes g c =
 pub returns-in-Err-clause-goes : goal.returns-in-Err-clause-goes
 returns-in-Err-clause-goes g c =
     let failed = c.in-Err.ensures in
-    rw c.failed_as.ensures (unread_by {T = ℕ} c.in_ok-slot.slot.id (Reads c.args.fd c.args.count) c.in-Err.why c.read_file.new.v.wrote (failed.looks.wrote ∙ c.requires.fresh) failed.looks.reads refl refl refl refl failed.missing failed.cause
+    let may : may_read c.in_ok-slot.slot.flags ≡ true = sym c.may_read.ensures ∙ c.if-not-may_read.false in
+    rw c.failed_as.ensures (unread_by {T = ℕ} c.in_ok-slot.slot.id (Reads c.args.fd c.args.count) c.in-Err.why c.read_file.new.v.wrote (failed.looks.wrote ∙ c.requires.fresh) failed.looks.reads refl (read_fine (opened c.in_ok-slot.slot) c.in_ok-slot.ensures.found may) refl refl failed.missing failed.cause
     (λ s here.
     let w = file_at c.args.fd c.in_ok-slot.slot c.in_ok-slot.ensures.found s here in
     let size = g.met.N.Nor.sized c.args.v.now.nor.now here.tells in

@@ -4,7 +4,8 @@ use Rattle.nor_core.proofs.Cuts.{reads_none}
 use Rattle.table_model.specs.Reply.{Fine}
 use Rattle.table_model.specs.Ask.{Removes}
 use Rattle.file_calls.proofs.Going.{goes_named, goes_refused, goes_done, goes_broken}
-use Rattle.file_calls.proofs.Removing.{remove_refuses, remove_step}
+use Rattle.file_calls.proofs.Removing.{removal_taken, remove_refuses, remove_step}
+use Rattle.file_calls.proofs.Standing.{stands_done, stands_broken}
 use Rattle.file_calls.proofs.remove.remove_in.Goals as goal
 
 pub returns-in_err-accept-clause-goes : goal.returns-in_err-accept-clause-goes
@@ -26,10 +27,22 @@ pub returns-in-Ok-clause-goes : goal.returns-in-Ok-clause-goes
 returns-in-Ok-clause-goes g c =
     let looked = c.in_ok-id.ensures in
     let fine = c.in_ok-accept.ensures.fine in
-    λ into. goes_done (Removes c.args.name.now) Fine refl refl fine (remove_step c.args.name.now fine c.in_ok-id.id looked.told) looked.looks c.requires.fresh c.close_file.new.slots c.close_file.ensures refl refl (λ bytes e. absurd (cc)) (λ k. absurd (let no : false ≡ true = k in cc)) c.in-Ok.ensures
+    λ into. goes_done (Removes c.args.name.now) Fine refl refl fine (remove_step c.args.name.now fine c.in_ok-id.id looked.told) looked.looks c.requires.fresh c.close_file.new.slots c.close_file.ensures refl refl (λ bytes e. absurd (cc)) (λ k. absurd (let no : false ≡ true = k in cc)) (removal_taken c.in-Ok.ensures.step)
 
 pub returns-in-Err-clause-goes : goal.returns-in-Err-clause-goes
 returns-in-Err-clause-goes g c =
     let looked = c.in_ok-id.ensures in
     let fine = c.in_ok-accept.ensures.fine in
-    rw c.failed_as.ensures (λ into. goes_broken (Removes c.args.name.now) Fine refl refl fine (remove_step c.args.name.now fine c.in_ok-id.id looked.told) looked.looks c.requires.fresh c.in-Err.why refl c.in-Err.ensures)
+    rw c.failed_as.ensures (λ into. goes_broken (Removes c.args.name.now) Fine refl refl fine (remove_step c.args.name.now fine c.in_ok-id.id looked.told) looked.looks c.requires.fresh c.in-Err.why refl (removal_taken c.in-Err.ensures.step))
+
+pub returns-in-Ok-clause-counted : goal.returns-in-Ok-clause-counted
+returns-in-Ok-clause-counted g c =
+    let looked = c.in_ok-id.ensures in
+    let fine = c.in_ok-accept.ensures.fine in
+    λ into. stands_done (remove_step c.args.name.now fine c.in_ok-id.id looked.told) looked.looks Fine c.in-Ok.ensures.step
+
+pub returns-in-Err-clause-counted : goal.returns-in-Err-clause-counted
+returns-in-Err-clause-counted g c =
+    let looked = c.in_ok-id.ensures in
+    let fine = c.in_ok-accept.ensures.fine in
+    rw c.failed_as.ensures (λ into. stands_broken (remove_step c.args.name.now fine c.in_ok-id.id looked.told) looked.looks c.in-Err.why c.in-Err.ensures.step)

@@ -12,6 +12,7 @@ use Rattle.file_calls.specs.Refusals.{IsNewName}
 use Rattle.file_calls.proofs.Going.{goes_named, goes_refused, rose_later, looked_back, looked_on}
 use Rattle.file_calls.proofs.Looked.{goes_since}
 use Rattle.file_calls.proofs.Restates.{refuses_so, named_there, rename_missing, rename_conflicts, rename_is}
+use Rattle.file_calls.proofs.Standing.{stands_since}
 use Rattle.file_calls.proofs.restating.rename_in.Goals as goal
 
 pub returns-in_err-accept_both-clause-goes : goal.returns-in_err-accept_both-clause-goes
@@ -54,4 +55,15 @@ returns-clause-goes g c =
     let looks = looks_then found.looks known.looks in
     let there = looked_on (λ h image. id_named old_name (table_of h image) ≡ Some c.in_ok-id.id) looks found.told in
     let free = looked_on (λ h image. has_name new_name (table_of h image) ≡ false) known.looks known.told in
-    λ slots into. goes_since looks (c.restate_file.ensures.goes (Renames old_name new_name) slots into (rename_is (Name c.args.new_name) refl old_name new_name c.in_ok-id.id (λ f. refl) c.in_ok-accept_both.ensures.fine there free))
+    λ slots into. goes_since looks c.in_ok-accept_both.ensures.fine (c.restate_file.ensures.goes (Renames old_name new_name) slots into (rename_is (Name c.args.new_name) refl old_name new_name c.in_ok-id.id (λ f. refl) c.in_ok-accept_both.ensures.fine there free))
+
+pub returns-clause-counted : goal.returns-clause-counted
+returns-clause-counted g c =
+    let found = c.in_ok-id.ensures in
+    let known = c.in_ok-refuse_known.ensures in
+    let old_name = c.args.old_name.now in
+    let new_name = c.args.new_name.now in
+    let looks = looks_then found.looks known.looks in
+    let there = looked_on (λ h image. id_named old_name (table_of h image) ≡ Some c.in_ok-id.id) looks found.told in
+    let free = looked_on (λ h image. has_name new_name (table_of h image) ≡ false) known.looks known.told in
+    λ slots into. stands_since looks (c.restate_file.ensures.counted (Renames old_name new_name) slots into (rename_is (Name c.args.new_name) refl old_name new_name c.in_ok-id.id (λ f. refl) c.in_ok-accept_both.ensures.fine there free))

@@ -1,5 +1,6 @@
-use Rattle.std.proofs.Common.{◌≡◌, rules, Err}
+use Rattle.std.proofs.Common.{◌≡◌, refl, rules, Err}
 use Rattle.flash_view.proofs.Stepped.{passes, ends_as}
+use Rattle.file_calls.proofs.CleansBy.{taken_as}
 use Rattle.file_calls.proofs.Cutting.{seek_failed, none_found, cut_then}
 use Rattle.file_calls.proofs.truncating.cut_file.Goals as goal
 
@@ -12,10 +13,10 @@ returns-in-Ok-false g c = λ f. none_found c.args.id c.args.size f (rw c.in-Ok-f
 pub returns-in_err-truncate_step-in-Ok-true : goal.returns-in_err-truncate_step-in-Ok-true
 returns-in_err-truncate_step-in-Ok-true g c = λ f.
     let is : c.from_residual.result ≡ Err c.in_err-truncate_step-in-Ok-true.field-0.0 = search rules in
-    passes (cut_then c.args.id c.args.size f (rw c.in-Ok-true.field-0-test at c.in-Ok-true.ensures) (c.in_err-truncate_step-in-Ok-true.ensures f)) is
-    (λ tells can. record { needs = can; cut = λ d cut. cut })
+    let all = cut_then c.args.id c.args.size f (rw c.in-Ok-true.field-0-test at c.in-Ok-true.ensures) (c.in_err-truncate_step-in-Ok-true.ensures.step f) in
+    taken_as all (passes all.steps is (λ tells can. record { needs = can; cut = λ d cut. cut })) (λ tells can. can) (λ e. rw is refl)
 
 pub returns-in_ok-truncate_step-in-Ok-true : goal.returns-in_ok-truncate_step-in-Ok-true
 returns-in_ok-truncate_step-in-Ok-true g c = λ f.
-    ends_as (cut_then c.args.id c.args.size f (rw c.in-Ok-true.field-0-test at c.in-Ok-true.ensures) (c.in_ok-truncate_step-in-Ok-true.ensures f))
-    (λ tells can. record { needs = can; cut = λ d cut. cut }) (λ tells can done. done)
+    let all = cut_then c.args.id c.args.size f (rw c.in-Ok-true.field-0-test at c.in-Ok-true.ensures) (c.in_ok-truncate_step-in-Ok-true.ensures.step f) in
+    taken_as all (ends_as all.steps (λ tells can. record { needs = can; cut = λ d cut. cut }) (λ tells can done. done)) (λ tells can. can) (λ e. e)

@@ -16,16 +16,16 @@ returns-in-Ok-true-clause-steps g c =
 pub returns-in_err-take_pages-clause-steps : goal.returns-in_err-take_pages-clause-steps
 returns-in_err-take_pages-clause-steps g c =
     let is : c.from_residual.result ≡ Err c.in_err-take_pages.field-0.0 = search rules in
-    passes (after_look {r = Err c.in_err-take_pages.field-0.0} {whole = taking_pages 1 1} c.in-Ok-false.ensures.looks c.in_err-take_pages.ensures (λ tells can. record { needs = can; cut = λ d cut. cut; done = λ d ok done. done })) is (λ tells can. tail_begins _ _ _ can)
+    passes (after_look {r = Err c.in_err-take_pages.field-0.0} {whole = taking_pages 1 1} c.in-Ok-false.ensures.looks c.in_err-take_pages.ensures.steps (λ tells can. record { needs = can; cut = λ d cut. cut; done = λ d ok done. done })) is (λ tells can. tail_begins _ _ _ can)
 
 pub returns-in-Ok-clause-steps : goal.returns-in-Ok-clause-steps
 returns-in-Ok-clause-steps g c =
-    stepped_then (after_look {whole = taking_pages 1 1} c.in-Ok-false.ensures.looks c.in_ok-take_pages.ensures (λ tells can. record { needs = can; cut = λ d cut. cut; done = λ d ok done. done })) (step_does c.in-Ok.ensures.steps)
+    stepped_then (after_look {whole = taking_pages 1 1} c.in-Ok-false.ensures.looks c.in_ok-take_pages.ensures.steps (λ tells can. record { needs = can; cut = λ d cut. cut; done = λ d ok done. done })) (step_does c.in-Ok.ensures.steps)
     (λ tells can. tail_begins _ _ _ can) (λ tells can made. tail_ends _ _ _ can _ made)
 
 pub returns-in-Err-ready_tail-clause-steps : goal.returns-in-Err-ready_tail-clause-steps
 returns-in-Err-ready_tail-clause-steps g c =
-    rw c.failed_as.ensures (stepped_then (after_look {whole = taking_pages 1 1} c.in-Ok-false.ensures.looks c.in_ok-take_pages.ensures (λ tells can. record { needs = can; cut = λ d cut. cut; done = λ d ok done. done })) (step_fails c.in-Err-ready_tail.ensures.steps)
+    rw c.failed_as.ensures (stepped_then (after_look {whole = taking_pages 1 1} c.in-Ok-false.ensures.looks c.in_ok-take_pages.ensures.steps (λ tells can. record { needs = can; cut = λ d cut. cut; done = λ d ok done. done })) (step_fails c.in-Err-ready_tail.ensures.steps)
     (λ tells can. tail_begins _ _ _ can) (λ tells can made. tail_ends _ _ _ can _ made))
 
 pub returns-in_err-take_pages-clause-still : goal.returns-in_err-take_pages-clause-still

@@ -1,4 +1,5 @@
 use Rattle.std.proofs.Common.{◌≡◌, length, refl, rules, Err, arith}
+use Rattle.std.proofs.lemmas.Bool.{ltb-true}
 use Rattle.geometry.specs.Numbers.{body}
 use Rattle.flash_view.proofs.Looking.{looks_none}
 use Rattle.flash_view.proofs.Stepped.{looked, passes, ends_as}
@@ -25,7 +26,7 @@ returns-in_err-write_part g c = λ f sized.
     let end = c.part_end-to.ensures in
     let is : c.from_residual.result ≡ Err c.in_err-write_part.field-0.0 = search rules in
     let part = is_part (body c.loop-from.v.geometry) c.args.size c.args.at (length c.args.bytes.now) c.loop-from.from c.part_end-to.result c.in-Some.end so_far.low so_far.end end.behind end.within end.page end.old end.is in
-    passes (write_turn c.args.id c.args.at c.loop-from.from c.part_end-to.result c.args.size c.max.result c.args.bytes.now f part (let most = c.max.ensures in omega (arith, most)) sized (so_far.step f sized) c.in_err-write_part.ensures) is
+    passes (write_turn c.args.id c.args.at c.loop-from.from c.part_end-to.result c.args.size c.max.result _ c.args.bytes.now f part (let most = c.max.ensures in omega (arith, most)) sized (λ is. ltb-true c.args.size c.loop-from.from is) (so_far.step f sized) c.in_err-write_part.ensures) is
     (λ tells can. record { needs = can; cut = λ d cut. cut })
 
 pub loop-from-preserved : goal.loop-from-preserved
@@ -37,7 +38,7 @@ loop-from-preserved g c =
       low = let low = so_far.low in let some = end.behind in omega (arith, low, some);
       high = end.within;
       end = so_far.end;
-      step = λ f sized. write_turn c.args.id c.args.at c.loop-from.from c.part_end-to.result c.args.size c.max.result c.args.bytes.now f part (let most = c.max.ensures in omega (arith, most)) sized (so_far.step f sized) c.in_ok-write_part.ensures;
+      step = λ f sized. write_turn c.args.id c.args.at c.loop-from.from c.part_end-to.result c.args.size c.max.result _ c.args.bytes.now f part (let most = c.max.ensures in omega (arith, most)) sized (λ is. ltb-true c.args.size c.loop-from.from is) (so_far.step f sized) c.in_ok-write_part.ensures;
     }
 
 pub returns : goal.returns

@@ -4,7 +4,7 @@ use Rattle.file_write.proofs.AppendEnds.{stays}
 use Rattle.file_write.proofs.LastPage.{size_fits, page_fits}
 use Rattle.file_write.proofs.append.append_found.Goals as goal
 
-pub returns-in_default : goal.returns-in_default
-returns-in_default g c = λ f.
+pub returns-in_default-clause-step : goal.returns-in_default-clause-step
+returns-in_default-clause-step g c = λ f.
     looked (looks_none c.args.v.now) (λ e. absurd (cc)) c.missing.ensures
     (λ tells can. (stays _ _ _ _ _ _ _ can, absurd (c.end_of.ensures.all can.can.some (page_fits _ _ _ _ _ _ _ can) (size_fits _ _ _ _ _ _ _ can) c.in_default.is)))

@@ -6,8 +6,8 @@ use Rattle.file_write.proofs.AppendEnds.{stays}
 use Rattle.file_write.proofs.Appending.{span_few}
 use Rattle.file_write.proofs.append.append_new.Goals as goal
 
-pub returns-then-span-gt65535 : goal.returns-then-span-gt65535
-returns-then-span-gt65535 g c = λ f.
+pub returns-then-span-gt65535-clause-step : goal.returns-then-span-gt65535-clause-step
+returns-then-span-gt65535-clause-step g c = λ f.
     let geometry = c.args.v.now.geometry in
     let size = c.args.found.size in
     let same : size / c.body.result ≡ size / body geometry = ap (λ (n : ℕ). size / n) c.body.ensures in

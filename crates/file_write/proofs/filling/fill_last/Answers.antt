@@ -3,25 +3,32 @@ use Rattle.std.specs.Prelude.{length}
 use Rattle.nor_core.specs.Flash.{HalfProgrammed, programmed}
 use Rattle.table_model.specs.Files.{written}
 use Rattle.flash_view.proofs.Stepped.{made, fails_as, stepped_then, view_image}
+use Rattle.page_put.specs.Recount.{IsUsedPage}
 use Rattle.file_write.proofs.LastPage.{fill_begins, fill_ends}
 use Rattle.file_write.proofs.filling.fill_last.Goals as goal
 
-pub returns-in-Err : goal.returns-in-Err
-returns-in-Err g c = λ f.
+pub returns-in-Err-clause-step : goal.returns-in-Err-clause-step
+returns-in-Err-clause-step g c = λ f.
     let e = c.in-Err.ensures in
     let page = c.args.page in
     let place = 5 + c.args.found.size % c.body.result in
     let bytes = c.args.from.now in
-    fails_as (made (λ h. HalfProgrammed (page * h.page + place) bytes) (λ h b. programmed b (page * h.page + place) bytes) e.same e.wrote e.cause e.changes e.done) (λ same. refl) (λ same. refl) tt
+    fails_as (made (λ h l. IsUsedPage h l page) (λ h. HalfProgrammed (page * h.page + place) bytes) (λ h b. programmed b (page * h.page + place) bytes) e.same e.wrote e.cause e.changes e.done e.counted) (λ same. refl) (λ same. refl) tt
     (λ tells fill. fill_begins c.args.v.now.geometry _ c.args.id c.args.found.header c.args.found.size page place c.args.end bytes f (view_image c.args.v.now (g.met.N.Nor.sized _) tells) fill (ap (λ (n : ℕ). 5 + c.args.found.size % n) c.body.ensures) c.requires.end.0)
 
-pub returns-in-Ok : goal.returns-in-Ok
-returns-in-Ok g c = λ f.
+pub returns-in-Ok-clause-step : goal.returns-in-Ok-clause-step
+returns-in-Ok-clause-step g c = λ f.
     let e = c.in-Ok.ensures in
     let page = c.args.page in
     let place = 5 + c.args.found.size % c.body.result in
     let bytes = c.args.from.now in
-    stepped_then (made (λ h. HalfProgrammed (page * h.page + place) bytes) (λ h b. programmed b (page * h.page + place) bytes) e.same e.wrote e.cause e.changes e.done) (c.renew_from.ensures (written (length f.bytes) bytes f))
+    stepped_then (made (λ h l. IsUsedPage h l page) (λ h. HalfProgrammed (page * h.page + place) bytes) (λ h b. programmed b (page * h.page + place) bytes) e.same e.wrote e.cause e.changes e.done e.counted) (c.renew_from.ensures.step (written (length f.bytes) bytes f))
     (λ tells fill. fill_begins c.args.v.now.geometry _ c.args.id c.args.found.header c.args.found.size page place c.args.end bytes f (view_image c.args.v.now (g.met.N.Nor.sized _) tells) fill (ap (λ (n : ℕ). 5 + c.args.found.size % n) c.body.ensures) c.requires.end.0)
     (λ tells fill done. fill_ends c.args.v.now.geometry _ c.args.id c.args.found.header c.args.found.size page place c.args.end bytes f (view_image c.args.v.now (g.met.N.Nor.sized _) tells) fill (ap (λ (n : ℕ). 5 + c.args.found.size % n) c.body.ensures) c.requires.end.0 _
     (λ k within. let small : Fits w8 (get_or c.args.from.now k 0) = c.type_inv.from k in omega arith) done)
+
+pub returns-in-Err-clause-few : goal.returns-in-Err-clause-few
+returns-in-Err-clause-few g c = omega (arith, c.in-Err.ensures.few)
+
+pub returns-in-Ok-clause-few : goal.returns-in-Ok-clause-few
+returns-in-Ok-clause-few g c = omega (arith, c.in-Ok.ensures.few, c.renew_from.ensures.few)

@@ -1,4 +1,4 @@
-use Rattle.std.proofs.Common.{◌≡◌, refl, rules, true, false}
+use Rattle.std.proofs.Common.{◌≡◌, refl, rules, true, false, arith}
 use Rattle.flash_view.proofs.Stepped.{looked, after_look}
 use Rattle.file_write.specs.Readyings.{HasReadyTailAt}
 use Rattle.file_write.proofs.BytesReadied.{ready_stays, entry_next}
@@ -18,7 +18,7 @@ returns-in-Ok-true-clause-steps g c = λ f.
 pub returns-in-Ok-false-clause-steps : goal.returns-in-Ok-false-clause-steps
 returns-in-Ok-false-clause-steps g c = λ f.
     let seen = c.in-Ok-false.ensures in
-    after_look seen.looks (c.ready_bytes.ensures f) (λ tells can. record { needs = can; cut = λ d cut. cut; done = λ d ok done. done })
+    after_look seen.looks (c.ready_bytes.ensures.step f) (λ tells can. record { needs = can; cut = λ d cut. cut; done = λ d ok done. done })
 
 pub returns-in-Ok-true-clause-still : goal.returns-in-Ok-true-clause-still
 returns-in-Ok-true-clause-still g c = λ f. still_after (λ k image. HasReadyTailAt k image c.args.id c.args.size f) c.in-Ok-true.ensures.looks (c.ready_entry.ensures.still f)
@@ -28,3 +28,12 @@ returns-in-Ok-false-clause-still g c = λ f tells has.
     let seen = c.in-Ok-false.ensures in
     let no : c.in-Ok-false.field-0 ≡ false = search rules in
     absurd (no_other _ _ _ _ f has (rw no at seen.part) (rw no at (seen.other tells (primed_tidy _ _ _ _ _ _ has.home.prime))))
+
+pub returns-in-Err-clause-few : goal.returns-in-Err-clause-few
+returns-in-Err-clause-few g c = omega (arith, c.in-Err.ensures.looks.reads.writes)
+
+pub returns-in-Ok-true-clause-few : goal.returns-in-Ok-true-clause-few
+returns-in-Ok-true-clause-few g c = omega (arith, c.in-Ok-true.ensures.looks.reads.writes, c.ready_entry.ensures.few)
+
+pub returns-in-Ok-false-clause-few : goal.returns-in-Ok-false-clause-few
+returns-in-Ok-false-clause-few g c = omega (arith, c.in-Ok-false.ensures.looks.reads.writes, c.ready_bytes.ensures.few)

@@ -1,4 +1,4 @@
-use Rattle.std.proofs.Common.{refl}
+use Rattle.std.proofs.Common.{refl, arith}
 use Rattle.flash_view.proofs.Stepped.{looked, after_look, view_image}
 use Rattle.image_model.specs.Tables.{table_of}
 use Rattle.file_write.specs.Readyings.{HasReadyTailAt}
@@ -30,3 +30,12 @@ returns-in-Ok-Some-clause-still g c = λ tells has.
     let f = chosen (table_of c.args.v.now.geometry (g.N.NorState.bytes c.args.v.now.nor.now)) c.args.id in
     still_after (λ k image. HasReadyTailAt k image c.args.id c.in-Ok-Some.field-0-0.size f) seen.looks (c.ready_in.ensures.still f) tells
     (ready_found _ _ _ (view_image c.args.v.now (g.met.N.Nor.sized _) tells) has _ (rw c.in-Ok-Some.field-0-is at (seen.told tells has.tidy)))
+
+pub returns-in-Err-clause-few : goal.returns-in-Err-clause-few
+returns-in-Err-clause-few g c = omega (arith, c.in-Err.ensures.looks.reads.writes)
+
+pub returns-in-Ok-None-clause-few : goal.returns-in-Ok-None-clause-few
+returns-in-Ok-None-clause-few g c = omega (arith, c.in-Ok-None.ensures.looks.reads.writes)
+
+pub returns-in-Ok-Some-clause-few : goal.returns-in-Ok-Some-clause-few
+returns-in-Ok-Some-clause-few g c = omega (arith, c.in-Ok-Some.ensures.looks.reads.writes, c.ready_in.ensures.few)

@@ -30,4 +30,4 @@ returns-clause-told g c = λ tells tidy there.
     let yes : c.in_ok-is_clean_by.field-0 ≡ true = search rules in
     let at = home_found c.args.v.now.geometry (g.N.NorState.bytes c.args.v.now.nor.now) c.args.id (view_image c.args.v.now (g.met.N.Nor.sized _) tells) tidy there c.in-Some.field-0 home in
     tail_told c.args.v.now.geometry (g.N.NorState.bytes c.args.v.now.nor.now) c.args.id (chosen (table_of c.args.v.now.geometry (g.N.NorState.bytes c.args.v.now.nor.now)) c.args.id) c.in-Some.field-0 c.in_ok-is_clean_by.field-0 c.in_ok-stale.stale c.is_none.result
-    home at yes (rw (one.same.geometry, one.reads.bytes) at clean) (rw (one.same.geometry, one.reads.bytes) at (rw (two.same.geometry, two.reads.bytes) at stale)) (rw (one.same.geometry, one.reads.bytes) at (rw (two.same.geometry, two.reads.bytes) at taken)) c.is_none.ensures
+    at yes (rw (one.same.geometry, one.reads.bytes) at clean) (rw (one.same.geometry, one.reads.bytes) at (rw (two.same.geometry, two.reads.bytes) at stale)) (rw (one.same.geometry, one.reads.bytes) at (rw (two.same.geometry, two.reads.bytes) at taken)) c.is_none.ensures

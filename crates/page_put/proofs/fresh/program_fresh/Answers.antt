@@ -15,7 +15,7 @@ returns-clause-changes g c =
     let view = c.args.v.now in
     let erased = c.in_ok-erase_block.ensures in
     wider (marks_then view.geometry c.erase_block.new.v.geometry c.args.block c.args.count erased.same.geometry erased.done erased.changes c.mark_block.ensures.changes)
-    (λ tells image cut. cut_freshens view.geometry c.args.block c.args.count (g.N.NorState.bytes view.nor.now) image c.requires.block (view_image view (g.met.N.Nor.sized _) tells) cut)
+    (λ tells image cut. cut_freshens view.geometry c.args.block c.args.count (g.N.NorState.bytes view.nor.now) image c.requires.block c.requires.count (view_image view (g.met.N.Nor.sized _) tells) cut)
 
 pub returns-clause-bytes : goal.returns-clause-bytes
 returns-clause-bytes g c = λ tells.
@@ -36,7 +36,7 @@ pub returns-in_err-erase_block-clause-changes : goal.returns-in_err-erase_block-
 returns-in_err-erase_block-clause-changes g c =
     let view = c.args.v.now in
     wider c.erase_block.ensures.changes
-    (λ tells image erasing. cut_freshens view.geometry c.args.block c.args.count (g.N.NorState.bytes view.nor.now) image c.requires.block (view_image view (g.met.N.Nor.sized _) tells) (inl erasing))
+    (λ tells image erasing. cut_freshens view.geometry c.args.block c.args.count (g.N.NorState.bytes view.nor.now) image c.requires.block c.requires.count (view_image view (g.met.N.Nor.sized _) tells) (inl erasing))
 
 pub returns-in_err-erase_block-clause-few : goal.returns-in_err-erase_block-clause-few
 returns-in_err-erase_block-clause-few g c = omega (arith, c.erase_block.ensures.few)

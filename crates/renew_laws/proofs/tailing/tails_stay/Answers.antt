@@ -1,4 +1,4 @@
-use Rattle.renew_laws.proofs.TailSteps.{tail-stays, tail-beside, tail-dropped, tail-copied, tail-readied}
+use Rattle.renew_laws.proofs.TailSteps.{tail-stays, tail-beside, tail-dropped, tail-copied, tail-readied, tail-grown}
 use Rattle.renew_laws.proofs.PrimePlaces.{tail-together}
 use Rattle.renew_laws.proofs.tailing.tails_stay.Goals as goal
 
@@ -16,6 +16,9 @@ returns-clause-copied c = tail-copied
 
 pub returns-clause-readied : goal.returns-clause-readied
 returns-clause-readied c = tail-readied
+
+pub returns-clause-grown : goal.returns-clause-grown
+returns-clause-grown c = tail-grown
 
 pub returns-clause-together : goal.returns-clause-together
 returns-clause-together c = tail-together

@@ -15,4 +15,4 @@ pub returns-clause-collects : goal.returns-clause-collects
 returns-clause-collects g c = λ slots. rw c.collected.ensures.ends (collects_to slots c.gc.result c.requires.takes c.gc.ensures)
 
 pub returns-clause-among : goal.returns-clause-among
-returns-clause-among g c = rw c.collected.ensures.ends (collected_among c.gc.result c.gc.ensures.differs)
+returns-clause-among g c = λ id. rw c.collected.ensures.ends (collected_among id c.gc.result c.gc.ensures.differs)

@@ -49,3 +49,6 @@ returns-in-Err-say_spans-clause-maps g c = λ slots closed.
     let count : ℕ = spans_told old.geometry (file_of c.args.id (table_of old.geometry (g.B.NorState.bytes old.nor.now))) in
     let says = c.say_spans.ensures.says c.args.id count (λ tells. tells_file slots c.args.id same (λ told. record { len = let sized = g.met.B.Nor.sized _ told in omega (arith, sized, mid.fits) }) (steps.1 (at_rest slots old closed c.requires.tidy (steps.0.cuts.told_before tells)))) in
     ends_front slots c.args.id _ c.in-Err-say_spans.is closed c.requires.tidy same steps says
+
+pub returns-in-Err-collect-clause-among : goal.returns-in-Err-collect-clause-among
+returns-in-Err-collect-clause-among g c = rw c.in-Err-collect.is at (c.collect.ensures.among c.args.id)

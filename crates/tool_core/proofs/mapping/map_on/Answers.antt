@@ -11,4 +11,4 @@ returns-clause-does g c =
 pub returns-clause-ends : goal.returns-clause-ends
 returns-clause-ends g c =
     let ended = c.map_board-ending.ensures in
-    ends_among MayEndMap c.map_board-ending.result c.conclude.result ended.among ended.behind.cuts c.conclude.ensures
+    ends_among (MayEndMap c.args.id) c.map_board-ending.result c.conclude.result ended.among ended.behind.cuts c.conclude.ensures

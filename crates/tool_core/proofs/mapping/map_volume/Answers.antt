@@ -23,4 +23,4 @@ pub returns-in-Err-clause-maps : goal.returns-in-Err-clause-maps
 returns-in-Err-clause-maps g c = λ slots closed. maps_stopped c.in-Err.ending c.mount_and_check.ensures.changes c.in-Err.ensures.stops
 
 pub returns-in-Err-clause-among : goal.returns-in-Err-clause-among
-returns-in-Err-clause-among g c = check_in_map c.in-Err.ending c.in-Err.ensures.among
+returns-in-Err-clause-among g c = check_in_map c.args.id c.in-Err.ending c.in-Err.ensures.among

@@ -37,7 +37,7 @@ returns-in_err-count_all g c =
 -- and the blocks were counted
 counted : (g : Over) (c : In_ok-count_all g) → Worked {nor = g.N.NorState} c.args.v.now c.clean_entries.new.v (Ok (c.in_ok-erased.erased, c.in_ok-dead.dead)) readying →
     Worked {nor = g.N.NorState} c.args.v.now c.count_all.new.v (Ok (c.in_ok-erased.erased, c.in_ok-dead.dead)) readying
-counted g c was = works_counted was c.in_ok-count_all.ensures.counts
+counted g c was = works_counted was c.in_ok-count_all.ensures.counts (λ stood. c.in_ok-count_all.ensures.stands (c.clean_entries.new.v.table stood).room)
 
 pub cull_pages-requires-clause-magics : goal.cull_pages-requires-clause-magics
 cull_pages-requires-clause-magics g c =

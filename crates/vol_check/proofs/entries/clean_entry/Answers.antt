@@ -16,10 +16,10 @@ pub returns-in_err-kill : goal.returns-in_err-kill
 returns-in_err-kill g c =
     let seen = c.in_ok-is_dead_entry.ensures in
     let dead = c.in_err-kill.ensures in
-    stops (kills_entry seen.looks dead.same dead.wrote dead.cause dead.changes dead.done (view_image c.args.v.now (g.met.N.Nor.sized _)) (λ tells magics need. rw c.if-not-branch.false at (seen.byte tells))) c.from_residual-in_err-kill.ensures.0 (λ tells magics need. must_be_killed _ _ _ (sym (seen.told tells) ∙ c.if-not-branch.false))
+    stops (kills_entry seen.looks dead.same dead.wrote dead.cause dead.changes dead.done dead.counted (view_image c.args.v.now (g.met.N.Nor.sized _)) (λ tells magics need. rw c.if-not-branch.false at (seen.byte tells))) c.from_residual-in_err-kill.ensures.0 (λ tells magics need. must_be_killed _ _ _ (sym (seen.told tells) ∙ c.if-not-branch.false))
 
 pub returns : goal.returns
 returns g c =
     let seen = c.in_ok-is_dead_entry.ensures in
     let dead = c.in_ok-kill.ensures in
-    works_as (kills_entry seen.looks dead.same dead.wrote dead.cause dead.changes dead.done (view_image c.args.v.now (g.met.N.Nor.sized _)) (λ tells magics need. rw c.if-not-branch.false at (seen.byte tells))) (λ tells magics need. must_be_killed _ _ _ (sym (seen.told tells) ∙ c.if-not-branch.false)) (λ tells magics need kept done. done)
+    works_as (kills_entry seen.looks dead.same dead.wrote dead.cause dead.changes dead.done dead.counted (view_image c.args.v.now (g.met.N.Nor.sized _)) (λ tells magics need. rw c.if-not-branch.false at (seen.byte tells))) (λ tells magics need. must_be_killed _ _ _ (sym (seen.told tells) ∙ c.if-not-branch.false)) (λ tells magics need kept done. done)

@@ -20,12 +20,12 @@ pub returns-in_err-fresh_block : goal.returns-in_err-fresh_block
 returns-in_err-fresh_block g c =
     let looked = c.in_ok-block.ensures in
     let fresh = c.in_err-fresh_block.ensures in
-    stops (freshens_block c.in_ok-count.count (looks_then looked.looks c.in_ok-count.ensures.looks.only) fresh.same fresh.wrote fresh.cause fresh.changes fresh.done (view_image c.args.v.now (g.met.N.Nor.sized _)) (next_told c.in_ok-count.count looked.looks c.in_ok-count.ensures.looks.told)) c.from_residual-in_err-fresh_block.ensures.0
+    stops (freshens_block c.in_ok-count.count (looks_then looked.looks c.in_ok-count.ensures.looks.only) fresh.same fresh.wrote fresh.cause fresh.changes fresh.done fresh.counted (view_image c.args.v.now (g.met.N.Nor.sized _)) (next_told c.in_ok-count.count looked.looks c.in_ok-count.ensures.looks.told)) c.from_residual-in_err-fresh_block.ensures.0
     (λ tells magics need. must_be_made _ _ _ (found_spoiled _ _ _ (sym (looked.told tells) ∙ c.in-Some.is)))
 
 pub returns : goal.returns
 returns g c =
     let looked = c.in_ok-block.ensures in
     let fresh = c.in_ok-fresh_block.ensures in
-    works_as (freshens_block c.in_ok-count.count (looks_then looked.looks c.in_ok-count.ensures.looks.only) fresh.same fresh.wrote fresh.cause fresh.changes fresh.done (view_image c.args.v.now (g.met.N.Nor.sized _)) (next_told c.in_ok-count.count looked.looks c.in_ok-count.ensures.looks.told))
+    works_as (freshens_block c.in_ok-count.count (looks_then looked.looks c.in_ok-count.ensures.looks.only) fresh.same fresh.wrote fresh.cause fresh.changes fresh.done fresh.counted (view_image c.args.v.now (g.met.N.Nor.sized _)) (next_told c.in_ok-count.count looked.looks c.in_ok-count.ensures.looks.told))
     (λ tells magics need. must_be_made _ _ _ (found_spoiled _ _ _ (sym (looked.told tells) ∙ c.in-Some.is))) (λ tells magics need kept done. done)

@@ -9,3 +9,6 @@ call_in-requires g c = record { usable = c.requires.usable; fresh = c.requires.f
 
 pub returns-in_default-clause-acts : goal.returns-in_default-clause-acts
 returns-in_default-clause-acts g c = acts_by c.requires.none c.call_in.ensures.goes (no_write c.args.call.now c.in_default.not-Write c.in_default.not-Fill)
+
+pub returns-in-Write-clause-counted : goal.returns-in-Write-clause-counted
+returns-in-Write-clause-counted g c = c.write_in.ensures.counted c.args.into.now

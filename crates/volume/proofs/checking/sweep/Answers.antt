@@ -1,5 +1,6 @@
 use Rattle.std.proofs.Common.{refl, ◌∙◌, ap, inl, inr, Err}
 use Rattle.nor_core.proofs.Cuts.{wider}
+use Rattle.trim_laws.proofs.Wears.{cuts_whole}
 use Rattle.block_gc.specs.declared.room.RoomErr.{RoomErr}
 use Rattle.block_gc.specs.declared.room.RoomErr.TheVariants.{Step}
 use Rattle.volume.specs.Checking.{as_check_err}
@@ -16,7 +17,9 @@ returns-in-Ok g c =
       cause = λ is. absurd (cc);
       means = tt;
       cuts = wider made.changes (λ tells image cut tidy. (cut tidy).keeps);
-      trims = made.trims;
+      upkeep = made.upkeep;
+      worn = λ tells tidy. cuts_whole _ _ _ (made.upkeep.now tells tidy).wears (made.done tells tidy).tidy.magic;
+      stands = made.stands;
       ends = λ tells tidy. let now = made.done tells tidy in record { tidy = now.tidy; table = now.table; swept = now.swept; needed = none_more _ _ now.swept.through (reserve_ready _) now.needed; stopped = inl now.ready.reserve; mended = λ can. now.ready.reserve };
     }
 
@@ -29,7 +32,9 @@ returns-in-Err-Tight g c =
       cause = λ is. absurd (cc);
       means = tt;
       cuts = wider short.changes (λ tells image cut tidy. (cut tidy).keeps);
-      trims = short.trims;
+      upkeep = short.upkeep;
+      worn = λ tells tidy. cuts_whole _ _ _ (short.upkeep.now tells tidy).wears (short.tight tells tidy (ap (λ (w : RoomErr). Err w) is)).tidy.magic;
+      stands = λ tells tidy stood. rw is at (short.stands tells tidy stood);
       ends = λ tells tidy. let now = short.tight tells tidy (ap (λ (w : RoomErr). Err w) is) in record { tidy = now.tidy; table = now.table; swept = now.swept; needed = none_more _ _ now.swept.through (reserve_ready _) now.needed; stopped = inr now.none; mended = λ can. absurd (short.mended tells can refl refl is) };
     }
 
@@ -43,6 +48,8 @@ returns-in-Err-Step g c =
       cause = λ fault. failed.cause (ap (λ (w : RoomErr). Err w) (is ∙ ap Step (stop_fault why (same_err (as_check_err why) _ fault))));
       means = stop_means why (rw is at failed.differs);
       cuts = wider failed.changes (λ tells image cut tidy. (cut tidy).keeps);
-      trims = failed.trims;
+      upkeep = failed.upkeep;
+      worn = λ tells tidy. tt;
+      stands = λ tells tidy stood. tt;
       ends = λ tells tidy. ap as_check_err (step_fault why (rw is at (failed.undamaged tells tidy)));
     })

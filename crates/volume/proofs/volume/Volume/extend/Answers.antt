@@ -32,4 +32,4 @@ returns g c =
       faults = omega arith;
       few = few_none self.geometry self.nor.now self.cache.now;
     })
-    refl refl refl refl c.put.ensures (omega (arith, c.saturating_add.ensures, c.push-self.ensures.taken)) c.push-self.ensures.run
+    refl refl refl refl refl c.put.ensures (omega (arith, c.saturating_add.ensures, c.push-self.ensures.taken)) c.push-self.ensures.run

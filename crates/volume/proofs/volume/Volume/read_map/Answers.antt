@@ -23,5 +23,5 @@ returns-in-Ok g c =
       few = read.same.few;
     })
     read.slots (rw (read.held, read.window) refl) c.in-Ok.had c.settled.result c.in-Ok.is c.settled.ensures.closed c.settled.ensures.settles c.settled.ensures.still read.map read.numbers (λ m takes here. rw c.in-Ok.is at (c.settled.ensures.map m takes here))
-    c.args.at c.args.into.now c.read_settled-result.new.into c.read_settled-result.result c.stage_of-self.ensures read.once read.none read.apart read.cause read.told
+    c.args.at c.args.into.now c.read_settled-result.new.into c.read_settled-result.result c.stage_of-self.ensures read.once read.none read.apart read.cause read.differs read.told
     (λ tells. record { len = let sized = g.met.N.Nor.sized _ tells in omega (arith, sized, mid.fits) })

@@ -11,7 +11,7 @@ pub returns-in-Ok-clause-settles : goal.returns-in-Ok-clause-settles
 returns-in-Ok-clause-settles g c = λ takes.
     let after = c.refill.ensures in
     let was = rw c.in-Ok.is at c.begin.ensures.settles in
-    settles_read c.in-Ok.had was after.looks after.same after.slots (rw (after.held, after.window) refl) after.stage (λ none. ⊎_elim
+    settles_read c.in-Ok.had was after.looks after.same after.slots (rw (after.held, after.window) refl) after.stage after.counted (λ none. ⊎_elim
     (λ (used : c.args.self.now.map.used ≡ true). after.still (rw (was.idle none).1 used))
     (λ (free : c.args.self.now.map.used ≡ false). after.none free)
     (cases_Bool c.args.self.now.map.used))

@@ -1,0 +1,112 @@
+-- Calls that clean blocks for the pages that they take, one step after the other.
+use Rattle.std.proofs.Common.{◌≡◌, ℕ, List, [], true, false, refl, sym, subst, Result, Ok, IsErr}
+use Rattle.geometry.specs.declared.geometry.Geometry.{Geometry}
+use Rattle.nor_core.specs.declared.state.NorState.{Ghosts as NorOf}
+use Rattle.nor_core.specs.Device.{OnlyReads, Changes}
+use Rattle.nor_core.proofs.Cuts.{wider, both, unchanged, read_after, after_reads, reads_then, reads_none}
+use Rattle.image_model.specs.Tidy.{HasReserve}
+use Rattle.block_gc.specs.RoomMade.{SweptAlong, NoneIs, IsReady}
+use Rattle.flash_view.specs.declared.view.View.{View}
+use Rattle.flash_view.specs.Same.{OnlyLooks}
+use Rattle.flash_view.specs.Steps.{Step, Errors, Stepped, Begins, Finishes}
+use Rattle.flash_view.proofs.Stepped.{after_look, stepped_then}
+use Rattle.file_calls.specs.Collecting.{RoomCut}
+use Rattle.file_calls.specs.Cleans.{SweptFor, CleansFor, Taken}
+
+-- two free blocks stay free in a step
+abbrev pub StaysSpare : {T : Type 0} → Step T → Type 0
+StaysSpare step = (g : Geometry) (was image : List ℕ) → step.cut g was image → HasReserve g was → HasReserve g image
+
+-- nothing was cleaned
+pub swept_none : (g : Geometry) (index pages : ℕ) (image : List ℕ) → SweptFor g index pages image image
+unfolding SweptAlong NoneIs
+swept_none g index pages image = record { swept = record { through = []; steps = refl }; needed = tt }
+
+-- ---- over a device
+
+module _ {D : Type 0} {nor : NorOf D} {g : Geometry} {index pages : ℕ} where
+  -- broken off where another is
+  pub cleans_as : {old new : D} {P Q : Type 0} → (P → Q) → CleansFor nor g index pages old new P → CleansFor nor g index pages old new Q
+  cleans_as on call = record { mid = call.mid; first = call.first; idle = call.idle; needed = λ whole. call.needed (λ p. whole (on p)); rest = call.rest }
+
+  -- after reads
+  pub cleans_after : {old mid new : D} {P : Type 0} → OnlyReads nor old mid → CleansFor nor g index pages mid new P → CleansFor nor g index pages old new P
+  cleans_after reads call = record {
+    mid = call.mid;
+    first = after_reads reads call.first;
+    idle = λ ready. reads_then reads (call.idle (subst (λ (l : List ℕ). IsReady g l index pages) (sym reads.bytes) ready));
+    needed = λ whole. subst (λ (l : List ℕ). SweptFor g index pages l (nor.bytes call.mid)) reads.bytes (call.needed whole);
+    rest = call.rest;
+  }
+
+  -- and before reads
+  pub cleans_read : {old mid new : D} {P : Type 0} → CleansFor nor g index pages old mid P → OnlyReads nor mid new → CleansFor nor g index pages old new P
+  cleans_read call reads = record { mid = call.mid; first = call.first; idle = call.idle; needed = call.needed; rest = read_after call.rest reads }
+
+  -- nothing is cleaned
+  pub cleans_none : {old new : D} {P : Type 0} → RoomCut g (nor.bytes old) (nor.bytes old) → Changes nor old new (λ was image. HasReserve g was → HasReserve g image) → CleansFor nor g index pages old new P
+  cleans_none {old} stays rest = record {
+    mid = old;
+    first = unchanged old (RoomCut g) (λ tells. stays);
+    idle = λ ready. reads_none old;
+    needed = λ whole. swept_none g index pages (nor.bytes old);
+    rest = rest;
+  }
+
+  -- no more than reads
+  pub cleans_reads : {old new : D} {P : Type 0} → RoomCut g (nor.bytes old) (nor.bytes old) → OnlyReads nor old new → CleansFor nor g index pages old new P
+  cleans_reads {old} stays reads = cleans_none stays (read_after (unchanged old (λ was image. HasReserve g was → HasReserve g image) (λ tells reserve. reserve)) reads)
+
+-- ---- over a view
+
+module _ {N : Type 0} {nor : NorOf N} {index pages : ℕ} where
+  -- another step was taken by the same call
+  pub taken_as : {S T D E : Type 0} {before : Errors D} {errors : Errors E} {old new : View N nor} {r : Result S D} {q : Result T E} {first : Step S} {whole : Step T} → Taken before index pages old new r first → Stepped errors old new q whole →
+      (nor.tells old.nor.now → whole.needs old.geometry (nor.bytes old.nor.now) → first.needs old.geometry (nor.bytes old.nor.now)) → (IsErr r → IsErr q) → Taken errors index pages old new q whole
+  taken_as call steps needs on = record { steps = steps; cleans = λ tells need. cleans_as on (call.cleans tells (needs tells need)) }
+
+  -- for the same number of index pages
+  pub taken_so : {T E : Type 0} {errors : Errors E} {old new : View N nor} {r : Result T E} {step : Step T} {n : ℕ} → n ≡ index → Taken errors index pages old new r step → Taken errors n pages old new r step
+  taken_so {errors = errors} {old = old} {new = new} {r = r} {step = step} e call = subst (λ (k : ℕ). Taken errors k pages old new r step) (sym e) call
+
+  -- after a look
+  pub taken_after : {T E : Type 0} {errors : Errors E} {old mid new : View N nor} {r : Result T E} {step : Step T} → OnlyLooks old mid → Taken errors index pages mid new r step → Taken errors index pages old new r step
+  taken_after {old = old} {mid = mid} {new = new} {r = r} {step = step} looks call =
+      let cleans : nor.tells mid.nor.now → step.needs old.geometry (nor.bytes mid.nor.now) → CleansFor nor old.geometry index pages mid.nor.now new.nor.now (IsErr r) =
+      subst (λ (k : Geometry). nor.tells mid.nor.now → step.needs k (nor.bytes mid.nor.now) → CleansFor nor k index pages mid.nor.now new.nor.now (IsErr r)) looks.same.geometry call.cleans in
+      record {
+        steps = after_look looks call.steps (λ tells need. record { needs = need; cut = λ c cut. cut; done = λ c ok done. done });
+        cleans = λ tells need. cleans_after looks.reads (cleans (looks.reads.told tells) (subst (λ (l : List ℕ). step.needs old.geometry l) (sym looks.reads.bytes) need));
+      }
+
+  -- nothing was cleaned for it
+  pub untaken : {T E : Type 0} {errors : Errors E} {old new : View N nor} {r : Result T E} {step : Step T} → Stepped errors old new r step →
+      (nor.tells old.nor.now → step.needs old.geometry (nor.bytes old.nor.now) → RoomCut old.geometry (nor.bytes old.nor.now) (nor.bytes old.nor.now)) → StaysSpare step → Taken errors index pages old new r step
+  untaken {old = old} call stays spare = record {
+    steps = call;
+    cleans = λ tells need. cleans_none (stays tells need) (wider call.cuts (λ told image cut. spare old.geometry (nor.bytes old.nor.now) image (cut need)));
+  }
+
+  -- pages were had, and then a step was taken in which two free blocks stay free
+  pub taken_then : {S T D E : Type 0} {before : Errors D} {errors : Errors E} {old mid new : View N nor} {x : S} {r : Result T E} {first : Step S} {last whole : Step T} → StaysSpare last → Taken before index pages old mid (Ok x) first → Stepped errors mid new r last →
+      (nor.tells old.nor.now → whole.needs old.geometry (nor.bytes old.nor.now) → Begins old.geometry (nor.bytes old.nor.now) first whole) →
+      (nor.tells old.nor.now → whole.needs old.geometry (nor.bytes old.nor.now) → first.done old.geometry (nor.bytes old.nor.now) (nor.bytes mid.nor.now) x →
+      Finishes old.geometry (nor.bytes old.nor.now) (nor.bytes mid.nor.now) last whole) → Taken errors index pages old new r whole
+  taken_then {old = old} {mid = mid} {new = new} {last = last} spare call next begins finishes =
+      let g = old.geometry in
+      let cuts : Changes nor mid.nor.now new.nor.now (λ was image. last.needs g was → last.cut g was image) =
+      subst (λ (k : Geometry). Changes nor mid.nor.now new.nor.now (λ was image. last.needs k was → last.cut k was image)) call.steps.framed.same.geometry next.cuts in
+      record {
+        steps = stepped_then call.steps next begins finishes;
+        cleans = λ tells need.
+            let b = begins tells need in
+            let f = finishes tells need (call.steps.ends tells b.needs) in
+            let c = call.cleans tells b.needs in
+            record {
+              mid = c.mid;
+              first = c.first;
+              idle = c.idle;
+              needed = λ whole. c.needed (λ e. let no : false ≡ true = e in cc);
+              rest = both (λ a b c first second reserve. second (first reserve)) c.rest (wider cuts (λ told image cut. spare g (nor.bytes mid.nor.now) image (cut f.needs)));
+            };
+      }

@@ -1,0 +1,10 @@
+use Rattle.flash_view.proofs.Looking.{looks_none}
+use Rattle.flash_view.proofs.Stepped.{looked, weaker}
+use Rattle.file_calls.proofs.WriteParts.{tail_stays, known_ready}
+use Rattle.file_calls.proofs.writing.need_tail.Goals as goal
+
+pub returns-then-known : goal.returns-then-known
+returns-then-known g c = looked (looks_none c.args.v.now) (λ e. absurd (cc)) tt (λ tells can. (tail_stays _ _ _ can.can, known_ready _ _ _ _ can c.if-known.true))
+
+pub returns : goal.returns
+returns g c = weaker c.have_tail.ensures.steps (λ tells can. record { needs = can.can; cut = λ d cut. cut; done = λ d ok done. done })
