@@ -1,5 +1,5 @@
 use Rattle.std.proofs.Common.{◌≡◌, rules, Err, arith}
-use Rattle.std.specs.Prelude.{length, ◌<◌}
+use Rattle.std.specs.Prelude.{length}
 use Rattle.table_model.specs.Files.{written}
 use Rattle.flash_view.proofs.Stepped.{passes, stepped_then}
 use Rattle.file_write.specs.Appends.{indexing_data}
