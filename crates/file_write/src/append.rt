@@ -12,7 +12,7 @@ use crate::filling::append_inside;
 use crate::further::{append_first, append_there, find_slot};
 use flash_view::{StepErr, View};
 use geometry::Geometry;
-use nor_core::{Failed, Nor, NorState};
+use nor_core::{Nor, NorState};
 use page_renew::{Edit, Found, find_home, renew_from};
 
 // Adds bytes to a file whose header page has the entry of the new data page.
@@ -34,10 +34,8 @@ pub(crate) fn append_near<N: Nor>(
     ensures step { (f : File) → Stepped stopped v.old v.new result (appending_at id found.header found.size from.now f) }
     ensures few { N.device_writes v.new.nor.now ≤ N.device_writes v.old.nor.now + 10 }
 {
-    match add_data(v, id, span, from) {
-        Err(why) => Err(why),
-        Ok(page) => renew_from(v, id, found.header, Edit::GrowBy { size: end, page }),
-    }
+    let page = add_data(v, id, span, from)?;
+    renew_from(v, id, found.header, Edit::GrowBy { size: end, page })
 }
 
 // Adds bytes to a file whose new data page is in a further index page, but not the first of one.
@@ -60,11 +58,10 @@ fn append_far<N: Nor>(
     ensures step { (f : File) → Stepped stopped v.old v.new result (appending_at id found.header found.size from.now f) }
     ensures few { N.device_writes v.new.nor.now ≤ N.device_writes v.old.nor.now + 11 }
 {
-    match find_slot(v, id, span) {
-        Err(Failed) => Err(StepErr::DeviceFault),
-        Ok(None) => Err(StepErr::Damaged(missing(id))),
-        Ok(Some(index)) => append_there(v, id, found, index, span, end, from),
-    }
+    let Some(index) = find_slot(v, id, span)? else {
+        return Err(StepErr::Damaged(missing(id)));
+    };
+    append_there(v, id, found, index, span, end, from)
 }
 
 // Adds bytes to a file that ends with a data page.
@@ -144,9 +141,8 @@ pub fn append_step<N: Nor>(v: &mut View<'_, N>, id: u16, from: &[u8]) -> Result<
     ensures step { (f : File) → Stepped stopped v.old v.new result (appending id from.now f) }
     ensures few { N.device_writes v.new.nor.now ≤ N.device_writes v.old.nor.now + 14 }
 {
-    match find_home(v, id) {
-        Err(Failed) => Err(StepErr::DeviceFault),
-        Ok(None) => Err(StepErr::Damaged(missing(id))),
-        Ok(Some(found)) => append_found(v, id, found, from),
-    }
+    let Some(found) = find_home(v, id)? else {
+        return Err(StepErr::Damaged(missing(id)));
+    };
+    append_found(v, id, found, from)
 }

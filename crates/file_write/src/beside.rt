@@ -47,14 +47,11 @@ pub(crate) fn add_data<N: Nor>(
     ensures step { Stepped stopped v.old v.new result (adding Data (is_data id span from.now)) }
     ensures few { N.device_writes v.new.nor.now ≤ N.device_writes v.old.nor.now + 4 }
 {
-    match free_page(v, Kind::Data, 2, None) {
-        Err(Failed) => Err(StepErr::DeviceFault),
-        Ok(None) => Err(StepErr::Damaged(missing(id))),
-        Ok(Some(to)) => match put_data(v, to, id, span, from) {
-            Err(Failed) => Err(StepErr::DeviceFault),
-            Ok(()) => Ok(to),
-        },
-    }
+    let Some(to) = free_page(v, Kind::Data, 2, None)? else {
+        return Err(StepErr::Damaged(missing(id)));
+    };
+    put_data(v, to, id, span, from)?;
+    Ok(to)
 }
 
 // Puts the further index page that names page `target` as that of a data span at a free page.
@@ -94,12 +91,9 @@ pub(crate) fn add_index<N: Nor>(
     ensures step { Stepped stopped v.old v.new result (adding Index (is_further id span data_span target)) }
     ensures few { N.device_writes v.new.nor.now ≤ N.device_writes v.old.nor.now + 4 }
 {
-    match free_page(v, Kind::Index, 2, None) {
-        Err(Failed) => Err(StepErr::DeviceFault),
-        Ok(None) => Err(StepErr::Damaged(missing(id))),
-        Ok(Some(to)) => match put_index(v, to, id, span, data_span, target) {
-            Err(Failed) => Err(StepErr::DeviceFault),
-            Ok(()) => Ok(to),
-        },
-    }
+    let Some(to) = free_page(v, Kind::Index, 2, None)? else {
+        return Err(StepErr::Damaged(missing(id)));
+    };
+    put_index(v, to, id, span, data_span, target)?;
+    Ok(to)
 }

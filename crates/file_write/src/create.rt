@@ -49,12 +49,8 @@ pub fn create_step<N: Nor>(v: &mut View<'_, N>, id: u16, name: &[u8]) -> Result<
     ensures step { Stepped stopped v.old v.new result (creating id name.now) }
     ensures few { N.device_writes v.new.nor.now ≤ N.device_writes v.old.nor.now + 4 }
 {
-    match free_page(v, Kind::Index, 2, None) {
-        Err(Failed) => Err(StepErr::DeviceFault),
-        Ok(None) => Err(StepErr::Damaged(missing(id))),
-        Ok(Some(page)) => match put_header_page(v, page, id, name) {
-            Err(Failed) => Err(StepErr::DeviceFault),
-            Ok(()) => Ok(()),
-        },
-    }
+    let Some(page) = free_page(v, Kind::Index, 2, None)? else {
+        return Err(StepErr::Damaged(missing(id)));
+    };
+    Ok(put_header_page(v, page, id, name)?)
 }

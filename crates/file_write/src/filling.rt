@@ -65,10 +65,8 @@ fn fill_last<N: Nor>(
     ensures few { N.device_writes v.new.nor.now ≤ N.device_writes v.old.nor.now + 7 }
 {
     let at = BODY_AT + found.size % v.geometry.body();
-    match fill_tail(v, page, at, from) {
-        Err(Failed) => Err(StepErr::DeviceFault),
-        Ok(()) => renew_from(v, id, found.header, Edit::Grow(end)),
-    }
+    fill_tail(v, page, at, from)?;
+    renew_from(v, id, found.header, Edit::Grow(end))
 }
 
 // Adds bytes to a file that ends inside its last data page.
@@ -88,9 +86,8 @@ pub(crate) fn append_inside<N: Nor>(
     ensures step { (f : File) → Stepped stopped v.old v.new result (appending_at id found.header found.size from.now f) }
     ensures few { N.device_writes v.new.nor.now ≤ N.device_writes v.old.nor.now + 7 }
 {
-    match last_page(v, id, found.header, found.size) {
-        Err(Failed) => Err(StepErr::DeviceFault),
-        Ok(None) => Err(StepErr::Damaged(missing(id))),
-        Ok(Some(page)) => fill_last(v, id, found, page, end, from),
-    }
+    let Some(page) = last_page(v, id, found.header, found.size)? else {
+        return Err(StepErr::Damaged(missing(id)));
+    };
+    fill_last(v, id, found, page, end, from)
 }

@@ -60,13 +60,9 @@ pub(crate) fn append_there<N: Nor>(
     ensures step { (f : File) → Stepped stopped v.old v.new result (naming_at id found.header found.size index from.now f) }
     ensures few { N.device_writes v.new.nor.now ≤ N.device_writes v.old.nor.now + 11 }
 {
-    match add_data(v, id, span, from) {
-        Err(why) => Err(why),
-        Ok(page) => match name_slot(v, index, span, page) {
-            Err(Failed) => Err(StepErr::DeviceFault),
-            Ok(()) => renew_from(v, id, found.header, Edit::Grow(end)),
-        },
-    }
+    let page = add_data(v, id, span, from)?;
+    name_slot(v, index, span, page)?;
+    renew_from(v, id, found.header, Edit::Grow(end))
 }
 
 // Adds bytes to a file whose new data page is the first of a further index page.
@@ -90,11 +86,7 @@ pub(crate) fn append_first<N: Nor>(
     ensures few { N.device_writes v.new.nor.now ≤ N.device_writes v.old.nor.now + 14 }
 {
     let further = index_span(&v.geometry, span);
-    match add_data(v, id, span, from) {
-        Err(why) => Err(why),
-        Ok(page) => match add_index(v, id, further, span, page) {
-            Err(why) => Err(why),
-            Ok(_) => renew_from(v, id, found.header, Edit::Grow(end)),
-        },
-    }
+    let page = add_data(v, id, span, from)?;
+    add_index(v, id, further, span, page)?;
+    renew_from(v, id, found.header, Edit::Grow(end))
 }

@@ -11,8 +11,8 @@ use crate::create::missing;
 use crate::relinking::{Patch, replace_page};
 use flash_view::{StepErr, View};
 use geometry::Geometry;
-use nor_core::{Failed, Nor, NorState};
-use page_renew::{Found, find_home};
+use nor_core::{Nor, NorState};
+use page_renew::find_home;
 
 // What is to change in the data page where so many bytes begin, where they end in it and not behind the file's end.
 fn patch_at(g: &Geometry, id: u16, size: u32, at: u32, len: usize) -> Option<Patch>
@@ -68,9 +68,8 @@ pub fn overwrite_step<N: Nor>(
     ensures step { (f : File) → Stepped stopped v.old v.new result (overwriting id at bytes.now f) }
     ensures few { N.device_writes v.new.nor.now ≤ N.device_writes v.old.nor.now + 12 }
 {
-    match find_home(v, id) {
-        Err(Failed) => Err(StepErr::DeviceFault),
-        Ok(None) => Err(StepErr::Damaged(missing(id))),
-        Ok(Some(Found { size, .. })) => overwrite_in(v, id, size, at, bytes),
-    }
+    let Some(found) = find_home(v, id)? else {
+        return Err(StepErr::Damaged(missing(id)));
+    };
+    overwrite_in(v, id, found.size, at, bytes)
 }

@@ -13,7 +13,7 @@ use crate::tails::{has_clean_bytes, stale_index};
 use flash_view::{Kind, StepErr, View};
 use free_search::free_page;
 use nor_core::{Failed, Nor, NorState};
-use page_renew::{Found, build_copy, find_home, put_over};
+use page_renew::{build_copy, find_home, put_over};
 use table_model::Tag;
 
 // Puts a plain copy of an index page of a file at `to`, in its place: six programs.
@@ -39,14 +39,10 @@ fn refresh<N: Nor>(v: &mut View<'_, N>, id: u16, index: u16) -> Result<(), StepE
     ensures step { (size : ℕ) (f : File) → Stepped stopped v.old v.new result (refreshing id size index f) }
     ensures few { N.device_writes v.new.nor.now ≤ N.device_writes v.old.nor.now + 6 }
 {
-    match free_page(v, Kind::Index, 2, None) {
-        Err(Failed) => Err(StepErr::DeviceFault),
-        Ok(None) => Err(StepErr::Damaged(missing(id))),
-        Ok(Some(to)) => match refresh_to(v, id, index, to) {
-            Err(Failed) => Err(StepErr::DeviceFault),
-            Ok(()) => Ok(()),
-        },
-    }
+    let Some(to) = free_page(v, Kind::Index, 2, None)? else {
+        return Err(StepErr::Damaged(missing(id)));
+    };
+    Ok(refresh_to(v, id, index, to)?)
 }
 
 // Makes the tail of a file of that size ready where its bytes past the size are 0xFF.
@@ -56,10 +52,9 @@ fn ready_entry<N: Nor>(v: &mut View<'_, N>, id: u16, size: u32) -> Result<(), St
     ensures still { (f : File) → N.tells v.old.nor.now → HasReadyTailAt v.old.geometry (N.bytes v.old.nor.now) id size f → OnlyLooks v.old v.new }
     ensures few { N.device_writes v.new.nor.now ≤ N.device_writes v.old.nor.now + 6 }
 {
-    match stale_index(v, id, size) {
-        Err(Failed) => Err(StepErr::DeviceFault),
-        Ok(None) => Ok(()),
-        Ok(Some(index)) => refresh(v, id, index),
+    match stale_index(v, id, size)? {
+        None => Ok(()),
+        Some(index) => refresh(v, id, index),
     }
 }
 
@@ -91,10 +86,10 @@ fn ready_in<N: Nor>(v: &mut View<'_, N>, id: u16, size: u32) -> Result<(), StepE
     ensures still { (f : File) → N.tells v.old.nor.now → HasReadyTailAt v.old.geometry (N.bytes v.old.nor.now) id size f → OnlyLooks v.old v.new }
     ensures few { N.device_writes v.new.nor.now ≤ N.device_writes v.old.nor.now + 12 }
 {
-    match has_clean_bytes(v, id, size) {
-        Err(Failed) => Err(StepErr::DeviceFault),
-        Ok(true) => ready_entry(v, id, size),
-        Ok(false) => ready_bytes(v, id, size),
+    if has_clean_bytes(v, id, size)? {
+        ready_entry(v, id, size)
+    } else {
+        ready_bytes(v, id, size)
     }
 }
 
@@ -106,9 +101,8 @@ pub fn ready_tail<N: Nor>(v: &mut View<'_, N>, id: u16) -> Result<(), StepErr>
     ensures still { N.tells v.old.nor.now → HasReadyTail v.old.geometry (N.bytes v.old.nor.now) id → OnlyLooks v.old v.new }
     ensures few { N.device_writes v.new.nor.now ≤ N.device_writes v.old.nor.now + 12 }
 {
-    match find_home(v, id) {
-        Err(Failed) => Err(StepErr::DeviceFault),
-        Ok(None) => Err(StepErr::Damaged(missing(id))),
-        Ok(Some(Found { size, .. })) => ready_in(v, id, size),
-    }
+    let Some(found) = find_home(v, id)? else {
+        return Err(StepErr::Damaged(missing(id)));
+    };
+    ready_in(v, id, found.size)
 }

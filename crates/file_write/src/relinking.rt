@@ -152,14 +152,11 @@ fn copy<N: Nor>(v: &mut View<'_, N>, patch: Patch, spot: Spot, bytes: &[u8]) -> 
     ensures step { (f : File) → Stepped stopped v.old v.new result (copying patch spot bytes.now f) }
     ensures few { N.device_writes v.new.nor.now ≤ N.device_writes v.old.nor.now + 4 }
 {
-    match free_page(v, Kind::Data, 2, None) {
-        Err(Failed) => Err(StepErr::DeviceFault),
-        Ok(None) => Err(StepErr::Damaged(missing(patch.id))),
-        Ok(Some(to)) => match copy_to(v, patch, spot, to, bytes) {
-            Err(Failed) => Err(StepErr::DeviceFault),
-            Ok(()) => Ok(to),
-        },
-    }
+    let Some(to) = free_page(v, Kind::Data, 2, None)? else {
+        return Err(StepErr::Damaged(missing(patch.id)));
+    };
+    copy_to(v, patch, spot, to, bytes)?;
+    Ok(to)
 }
 
 // Puts an index page that names the copy at `at`, in the place of the one that names the old page: six programs.
@@ -191,14 +188,10 @@ fn rename<N: Nor>(v: &mut View<'_, N>, patch: Patch, spot: Spot, to: u16) -> Res
     ensures step { (was bytes : List ℕ) (f : File) → Stepped stopped v.old v.new result (renaming was patch spot to bytes f) }
     ensures few { N.device_writes v.new.nor.now ≤ N.device_writes v.old.nor.now + 6 }
 {
-    match free_page(v, Kind::Index, 2, None) {
-        Err(Failed) => Err(StepErr::DeviceFault),
-        Ok(None) => Err(StepErr::Damaged(missing(patch.id))),
-        Ok(Some(at)) => match rename_to(v, patch, spot, to, at) {
-            Err(Failed) => Err(StepErr::DeviceFault),
-            Ok(()) => Ok(()),
-        },
-    }
+    let Some(at) = free_page(v, Kind::Index, 2, None)? else {
+        return Err(StepErr::Damaged(missing(patch.id)));
+    };
+    Ok(rename_to(v, patch, spot, to, at)?)
 }
 
 // Kills the old data page.
@@ -207,10 +200,7 @@ fn drop_old<N: Nor>(v: &mut View<'_, N>, patch: Patch, spot: Spot) -> Result<(),
     ensures step { (was bytes : List ℕ) (f : File) → Stepped stopped v.old v.new result (dropping was patch spot bytes f) }
     ensures few { N.device_writes v.new.nor.now ≤ N.device_writes v.old.nor.now + 2 }
 {
-    match kill(v, spot.page) {
-        Err(Failed) => Err(StepErr::DeviceFault),
-        Ok(()) => Ok(()),
-    }
+    Ok(kill(v, spot.page)?)
 }
 
 // Renews the index page, and then kills the old data page.
@@ -257,9 +247,8 @@ pub(crate) fn replace_page<N: Nor>(
     ensures step { (f : File) → Stepped stopped v.old v.new result (replacing patch bytes.now f) }
     ensures few { N.device_writes v.new.nor.now ≤ N.device_writes v.old.nor.now + 12 }
 {
-    match find_spot(v, patch.id, patch.span) {
-        Err(Failed) => Err(StepErr::DeviceFault),
-        Ok(None) => Err(StepErr::Damaged(missing(patch.id))),
-        Ok(Some(spot)) => replace_at(v, patch, spot, bytes),
-    }
+    let Some(spot) = find_spot(v, patch.id, patch.span)? else {
+        return Err(StepErr::Damaged(missing(patch.id)));
+    };
+    replace_at(v, patch, spot, bytes)
 }

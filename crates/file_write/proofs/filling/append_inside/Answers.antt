@@ -1,28 +1,28 @@
-use Rattle.std.proofs.Common.{refl, arith}
-use Rattle.flash_view.proofs.Stepped.{looked, after_look}
+use Rattle.std.proofs.Common.{arith}
+use Rattle.flash_view.proofs.Stepped.{looked, look_faults, after_look}
 use Rattle.file_write.specs.Appends.{filling_at}
 use Rattle.file_write.proofs.AppendEnds.{stays}
 use Rattle.file_write.proofs.LastPage.{last_there, fill_at}
 use Rattle.file_write.proofs.filling.append_inside.Goals as goal
 
-pub returns-in-Err-clause-step : goal.returns-in-Err-clause-step
-returns-in-Err-clause-step g c = λ f. let seen = c.in-Err.ensures in looked seen.looks (λ e. seen.cause) tt (λ tells can. (stays _ _ _ _ _ _ _ can, refl))
+pub returns-in_err-page-clause-step : goal.returns-in_err-page-clause-step
+returns-in_err-page-clause-step g c = λ f. let seen = c.in_err-page.ensures in look_faults seen.looks seen.cause c.from_residual.ensures.0 c.from_residual.ensures.1 (λ tells can. stays _ _ _ _ _ _ _ can)
 
-pub returns-in-Ok-None-clause-step : goal.returns-in-Ok-None-clause-step
-returns-in-Ok-None-clause-step g c = λ f.
-    let seen = c.in-Ok-None.ensures in
-    looked seen.looks (λ e. absurd (cc)) c.missing.ensures (λ tells can. (stays _ _ _ _ _ _ _ can, absurd (last_there _ _ _ _ _ _ _ can c.requires.used (rw c.in-Ok-None.field-0-is at (seen.told tells can.can.tidy can.prime.at)))))
+pub returns-in_default-clause-step : goal.returns-in_default-clause-step
+returns-in_default-clause-step g c = λ f.
+    let seen = c.in_ok-page.ensures in
+    looked seen.looks (λ e. absurd (cc)) c.missing.ensures (λ tells can. (stays _ _ _ _ _ _ _ can, absurd (last_there _ _ _ _ _ _ _ can c.requires.used (rw c.in_default.is at (seen.told tells can.can.tidy can.prime.at)))))
 
-pub returns-in-Ok-Some-clause-step : goal.returns-in-Ok-Some-clause-step
-returns-in-Ok-Some-clause-step g c = λ f.
-    let seen = c.in-Ok-Some.ensures in
-    after_look {last = filling_at c.args.id c.args.found.header c.args.found.size c.in-Ok-Some.page c.args.from.now f} seen.looks (c.fill_last.ensures.step f) (λ tells can. fill_at _ _ _ _ _ _ _ can c.requires.used _ (rw c.in-Ok-Some.field-0-is at (seen.told tells can.can.tidy can.prime.at)))
+pub returns-clause-step : goal.returns-clause-step
+returns-clause-step g c = λ f.
+    let seen = c.in_ok-page.ensures in
+    after_look {last = filling_at c.args.id c.args.found.header c.args.found.size c.in-Some.page c.args.from.now f} seen.looks (c.fill_last.ensures.step f) (λ tells can. fill_at _ _ _ _ _ _ _ can c.requires.used _ (rw c.in-Some.is at (seen.told tells can.can.tidy can.prime.at)))
 
-pub returns-in-Err-clause-few : goal.returns-in-Err-clause-few
-returns-in-Err-clause-few g c = omega (arith, c.in-Err.ensures.looks.reads.writes)
+pub returns-in_err-page-clause-few : goal.returns-in_err-page-clause-few
+returns-in_err-page-clause-few g c = omega (arith, c.in_err-page.ensures.looks.reads.writes)
 
-pub returns-in-Ok-None-clause-few : goal.returns-in-Ok-None-clause-few
-returns-in-Ok-None-clause-few g c = omega (arith, c.in-Ok-None.ensures.looks.reads.writes)
+pub returns-in_default-clause-few : goal.returns-in_default-clause-few
+returns-in_default-clause-few g c = omega (arith, c.in_ok-page.ensures.looks.reads.writes)
 
-pub returns-in-Ok-Some-clause-few : goal.returns-in-Ok-Some-clause-few
-returns-in-Ok-Some-clause-few g c = omega (arith, c.in-Ok-Some.ensures.looks.reads.writes, c.fill_last.ensures.few)
+pub returns-clause-few : goal.returns-clause-few
+returns-clause-few g c = omega (arith, c.in_ok-page.ensures.looks.reads.writes, c.fill_last.ensures.few)

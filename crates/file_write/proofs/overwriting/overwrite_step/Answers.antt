@@ -1,27 +1,27 @@
-use Rattle.std.proofs.Common.{refl, arith}
-use Rattle.flash_view.proofs.Stepped.{looked, after_look, view_image}
+use Rattle.std.proofs.Common.{arith}
+use Rattle.flash_view.proofs.Stepped.{looked, look_faults, after_look, view_image}
 use Rattle.file_write.proofs.BytesOver.{over_stays, over_home, over_no_home}
 use Rattle.file_write.proofs.overwriting.overwrite_step.Goals as goal
 
-pub returns-in-Err-clause-step : goal.returns-in-Err-clause-step
-returns-in-Err-clause-step g c = λ f. let seen = c.in-Err.ensures in looked seen.looks (λ e. seen.cause) tt (λ tells can. (over_stays _ _ _ _ _ _ can, refl))
+pub returns-in_err-found-clause-step : goal.returns-in_err-found-clause-step
+returns-in_err-found-clause-step g c = λ f. let seen = c.in_err-found.ensures in look_faults seen.looks seen.cause c.from_residual.ensures.0 c.from_residual.ensures.1 (λ tells can. over_stays _ _ _ _ _ _ can)
 
-pub returns-in-Ok-None-clause-step : goal.returns-in-Ok-None-clause-step
-returns-in-Ok-None-clause-step g c = λ f.
-    let seen = c.in-Ok-None.ensures in
+pub returns-in_default-clause-step : goal.returns-in_default-clause-step
+returns-in_default-clause-step g c = λ f.
+    let seen = c.in_ok-found.ensures in
     looked seen.looks (λ e. absurd (cc)) c.missing.ensures
-    (λ tells can. (over_stays _ _ _ _ _ _ can, absurd (over_no_home _ _ _ _ _ _ (view_image c.args.v.now (g.met.N.Nor.sized _) tells) can (rw c.in-Ok-None.field-0-is at (seen.told tells can.tidy)))))
+    (λ tells can. (over_stays _ _ _ _ _ _ can, absurd (over_no_home _ _ _ _ _ _ (view_image c.args.v.now (g.met.N.Nor.sized _) tells) can (rw c.in_default.is at (seen.told tells can.tidy)))))
 
-pub returns-in-Ok-Some-clause-step : goal.returns-in-Ok-Some-clause-step
-returns-in-Ok-Some-clause-step g c = λ f.
-    let seen = c.in-Ok-Some.ensures in
-    after_look seen.looks (c.overwrite_in.ensures.step f) (λ tells can. over_home _ _ _ _ _ _ (view_image c.args.v.now (g.met.N.Nor.sized _) tells) can _ (rw c.in-Ok-Some.field-0-is at (seen.told tells can.tidy)))
+pub returns-clause-step : goal.returns-clause-step
+returns-clause-step g c = λ f.
+    let seen = c.in_ok-found.ensures in
+    after_look seen.looks (c.overwrite_in.ensures.step f) (λ tells can. over_home _ _ _ _ _ _ (view_image c.args.v.now (g.met.N.Nor.sized _) tells) can _ (rw c.in-Some.is at (seen.told tells can.tidy)))
 
-pub returns-in-Err-clause-few : goal.returns-in-Err-clause-few
-returns-in-Err-clause-few g c = omega (arith, c.in-Err.ensures.looks.reads.writes)
+pub returns-in_err-found-clause-few : goal.returns-in_err-found-clause-few
+returns-in_err-found-clause-few g c = omega (arith, c.in_err-found.ensures.looks.reads.writes)
 
-pub returns-in-Ok-None-clause-few : goal.returns-in-Ok-None-clause-few
-returns-in-Ok-None-clause-few g c = omega (arith, c.in-Ok-None.ensures.looks.reads.writes)
+pub returns-in_default-clause-few : goal.returns-in_default-clause-few
+returns-in_default-clause-few g c = omega (arith, c.in_ok-found.ensures.looks.reads.writes)
 
-pub returns-in-Ok-Some-clause-few : goal.returns-in-Ok-Some-clause-few
-returns-in-Ok-Some-clause-few g c = omega (arith, c.in-Ok-Some.ensures.looks.reads.writes, c.overwrite_in.ensures.few)
+pub returns-clause-few : goal.returns-clause-few
+returns-clause-few g c = omega (arith, c.in_ok-found.ensures.looks.reads.writes, c.overwrite_in.ensures.few)

@@ -1,39 +1,41 @@
-use Rattle.std.proofs.Common.{refl, arith}
-use Rattle.flash_view.proofs.Stepped.{looked, after_look, fails_as, ends_as}
+use Rattle.std.proofs.Common.{◌≡◌, rules, Err, arith}
+use Rattle.flash_view.specs.declared.kinds.StepErr.TheVariants.{DeviceFault}
+use Rattle.flash_view.proofs.Stepped.{looked, look_faults, after_look, fault_as, passes, ends_as}
 use Rattle.file_write.specs.Relinkings.{copying_at}
 use Rattle.file_write.proofs.CopyPut.{patch_stays, patch_clear, copy_found, copy_place}
 use Rattle.file_write.proofs.relinking.copy.Goals as goal
 
-pub returns-in-Err-clause-step : goal.returns-in-Err-clause-step
-returns-in-Err-clause-step g c = λ f. let seen = c.in-Err.ensures in looked seen.looks.only (λ e. seen.looks.cause) tt (λ tells at. (patch_stays _ _ _ _ _ at.can, refl))
+pub returns-in_err-to-clause-step : goal.returns-in_err-to-clause-step
+returns-in_err-to-clause-step g c = λ f. let seen = c.in_err-to.ensures in look_faults seen.looks.only seen.looks.cause c.from_residual.ensures.0 c.from_residual.ensures.1 (λ tells at. patch_stays _ _ _ _ _ at.can)
 
-pub returns-in-Ok-None-clause-step : goal.returns-in-Ok-None-clause-step
-returns-in-Ok-None-clause-step g c = λ f.
-    let seen = c.in-Ok-None.ensures in
-    looked seen.looks.only (λ e. absurd (cc)) c.missing.ensures (λ tells at. (patch_stays _ _ _ _ _ at.can, absurd (copy_found _ _ _ _ _ at.can (rw c.in-Ok-None.field-0-is at (seen.looks.told tells (patch_clear _ _ _ _ _ at.can).tells)))))
+pub returns-in_default-clause-step : goal.returns-in_default-clause-step
+returns-in_default-clause-step g c = λ f.
+    let seen = c.in_ok-to.ensures in
+    looked seen.looks.only (λ e. absurd (cc)) c.missing.ensures (λ tells at. (patch_stays _ _ _ _ _ at.can, absurd (copy_found _ _ _ _ _ at.can (rw c.in_default.is at (seen.looks.told tells (patch_clear _ _ _ _ _ at.can).tells)))))
 
-pub returns-in-Err-copy_to-clause-step : goal.returns-in-Err-copy_to-clause-step
-returns-in-Err-copy_to-clause-step g c = λ f.
-    let seen = c.in-Ok-Some.ensures in
-    after_look {last = copying_at c.args.patch c.args.spot c.in-Ok-Some.to c.args.bytes.now f} seen.looks.only
-    (fails_as (c.in-Err-copy_to.ensures.step f) (λ same. refl) (λ same. refl) tt (λ tells need. record { needs = need; cut = λ d cut. cut }))
-    (λ tells at. record { needs = copy_place _ _ _ _ _ _ _ at (rw c.in-Ok-Some.field-0-is at (seen.looks.told tells (patch_clear _ _ _ _ _ at.can).tells)); cut = λ d cut. cut; done = λ d ok done. done })
+pub returns-in_err-copy_to-clause-step : goal.returns-in_err-copy_to-clause-step
+returns-in_err-copy_to-clause-step g c = λ f.
+    let seen = c.in_ok-to.ensures in
+    let is : c.from_residual-in_err-copy_to.result ≡ Err DeviceFault = search rules in
+    after_look {last = copying_at c.args.patch c.args.spot c.in-Some.to c.args.bytes.now f} seen.looks.only
+    (passes (fault_as (c.in_err-copy_to.ensures.step f)) is (λ tells need. record { needs = need; cut = λ d cut. cut }))
+    (λ tells at. record { needs = copy_place _ _ _ _ _ _ _ at (rw c.in-Some.is at (seen.looks.told tells (patch_clear _ _ _ _ _ at.can).tells)); cut = λ d cut. cut; done = λ d ok done. done })
 
-pub returns-in-Ok-clause-step : goal.returns-in-Ok-clause-step
-returns-in-Ok-clause-step g c = λ f.
-    let seen = c.in-Ok-Some.ensures in
-    after_look {last = copying_at c.args.patch c.args.spot c.in-Ok-Some.to c.args.bytes.now f} seen.looks.only
-    (ends_as (c.in-Ok.ensures.step f) (λ tells need. record { needs = need; cut = λ d cut. cut }) (λ tells need done. done))
-    (λ tells at. record { needs = copy_place _ _ _ _ _ _ _ at (rw c.in-Ok-Some.field-0-is at (seen.looks.told tells (patch_clear _ _ _ _ _ at.can).tells)); cut = λ d cut. cut; done = λ d ok done. done })
+pub returns-clause-step : goal.returns-clause-step
+returns-clause-step g c = λ f.
+    let seen = c.in_ok-to.ensures in
+    after_look {last = copying_at c.args.patch c.args.spot c.in-Some.to c.args.bytes.now f} seen.looks.only
+    (ends_as (c.in_ok-copy_to.ensures.step f) (λ tells need. record { needs = need; cut = λ d cut. cut }) (λ tells need done. done))
+    (λ tells at. record { needs = copy_place _ _ _ _ _ _ _ at (rw c.in-Some.is at (seen.looks.told tells (patch_clear _ _ _ _ _ at.can).tells)); cut = λ d cut. cut; done = λ d ok done. done })
 
-pub returns-in-Err-clause-few : goal.returns-in-Err-clause-few
-returns-in-Err-clause-few g c = omega (arith, c.in-Err.ensures.looks.only.reads.writes)
+pub returns-in_err-to-clause-few : goal.returns-in_err-to-clause-few
+returns-in_err-to-clause-few g c = omega (arith, c.in_err-to.ensures.looks.only.reads.writes)
 
-pub returns-in-Ok-None-clause-few : goal.returns-in-Ok-None-clause-few
-returns-in-Ok-None-clause-few g c = omega (arith, c.in-Ok-None.ensures.looks.only.reads.writes)
+pub returns-in_default-clause-few : goal.returns-in_default-clause-few
+returns-in_default-clause-few g c = omega (arith, c.in_ok-to.ensures.looks.only.reads.writes)
 
-pub returns-in-Err-copy_to-clause-few : goal.returns-in-Err-copy_to-clause-few
-returns-in-Err-copy_to-clause-few g c = omega (arith, c.in-Ok-Some.ensures.looks.only.reads.writes, c.in-Err-copy_to.ensures.few)
+pub returns-in_err-copy_to-clause-few : goal.returns-in_err-copy_to-clause-few
+returns-in_err-copy_to-clause-few g c = omega (arith, c.in_ok-to.ensures.looks.only.reads.writes, c.in_err-copy_to.ensures.few)
 
-pub returns-in-Ok-clause-few : goal.returns-in-Ok-clause-few
-returns-in-Ok-clause-few g c = omega (arith, c.in-Ok-Some.ensures.looks.only.reads.writes, c.in-Ok.ensures.few)
+pub returns-clause-few : goal.returns-clause-few
+returns-clause-few g c = omega (arith, c.in_ok-to.ensures.looks.only.reads.writes, c.in_ok-copy_to.ensures.few)

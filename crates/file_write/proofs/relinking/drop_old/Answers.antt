@@ -1,16 +1,16 @@
 use Rattle.std.proofs.Common.{arith}
-use Rattle.flash_view.proofs.Stepped.{weaker, fault_as, done_as}
+use Rattle.flash_view.proofs.Stepped.{weaker, fault_passes, done_as}
 use Rattle.file_write.proofs.OldDropped.{old_kills}
 use Rattle.file_write.proofs.relinking.drop_old.Goals as goal
 
-pub returns-in-Err-clause-step : goal.returns-in-Err-clause-step
-returns-in-Err-clause-step g c = λ was bytes f. fault_as (weaker c.in-Err.ensures.live (λ tells has. old_kills _ was _ c.args.patch c.args.spot bytes f has))
+pub returns-in_err-kill-clause-step : goal.returns-in_err-kill-clause-step
+returns-in_err-kill-clause-step g c = λ was bytes f. fault_passes (weaker c.in_err-kill.ensures.live (λ tells has. old_kills _ was _ c.args.patch c.args.spot bytes f has)) c.from_residual.ensures.0 c.from_residual.ensures.1
 
-pub returns-in-Ok-clause-step : goal.returns-in-Ok-clause-step
-returns-in-Ok-clause-step g c = λ was bytes f. done_as (weaker c.in-Ok.ensures.live (λ tells has. old_kills _ was _ c.args.patch c.args.spot bytes f has))
+pub returns-clause-step : goal.returns-clause-step
+returns-clause-step g c = λ was bytes f. done_as (weaker c.in_ok-kill.ensures.live (λ tells has. old_kills _ was _ c.args.patch c.args.spot bytes f has))
 
-pub returns-in-Err-clause-few : goal.returns-in-Err-clause-few
-returns-in-Err-clause-few g c = omega (arith, c.in-Err.ensures.few)
+pub returns-in_err-kill-clause-few : goal.returns-in_err-kill-clause-few
+returns-in_err-kill-clause-few g c = omega (arith, c.in_err-kill.ensures.few)
 
-pub returns-in-Ok-clause-few : goal.returns-in-Ok-clause-few
-returns-in-Ok-clause-few g c = omega (arith, c.in-Ok.ensures.few)
+pub returns-clause-few : goal.returns-clause-few
+returns-clause-few g c = omega (arith, c.in_ok-kill.ensures.few)

@@ -1,39 +1,40 @@
-use Rattle.std.proofs.Common.{refl, arith}
-use Rattle.flash_view.proofs.Stepped.{looked, after_look, fault_as, done_as}
+use Rattle.std.proofs.Common.{arith}
+use Rattle.flash_view.proofs.Stepped.{looked, look_faults, after_look, fault_passes, done_as}
 use Rattle.file_write.proofs.IndexNamed.{copy_clear, copy_stays, index_found, index_place}
 use Rattle.file_write.proofs.relinking.rename.Goals as goal
 
-pub returns-in-Err-clause-step : goal.returns-in-Err-clause-step
-returns-in-Err-clause-step g c = λ was bytes f. let seen = c.in-Err.ensures in looked seen.looks.only (λ e. seen.looks.cause) tt (λ tells has. (copy_stays _ was _ _ _ _ _ _ has, refl))
+pub returns-in_err-at-clause-step : goal.returns-in_err-at-clause-step
+returns-in_err-at-clause-step g c = λ was bytes f. let seen = c.in_err-at.ensures in look_faults seen.looks.only seen.looks.cause c.from_residual.ensures.0 c.from_residual.ensures.1 (λ tells has. copy_stays _ was _ _ _ _ _ _ has)
 
-pub returns-in-Ok-None-clause-step : goal.returns-in-Ok-None-clause-step
-returns-in-Ok-None-clause-step g c = λ was bytes f.
-    let seen = c.in-Ok-None.ensures in
+pub returns-in_default-clause-step : goal.returns-in_default-clause-step
+returns-in_default-clause-step g c = λ was bytes f.
+    let seen = c.in_ok-at.ensures in
     looked seen.looks.only (λ e. absurd (cc)) c.missing.ensures
-    (λ tells has. (copy_stays _ was _ _ _ _ _ _ has, absurd (index_found _ was _ _ _ _ _ _ has (rw c.in-Ok-None.field-0-is at (seen.looks.told tells (copy_clear _ was _ _ _ _ _ _ has).tells)))))
+    (λ tells has. (copy_stays _ was _ _ _ _ _ _ has, absurd (index_found _ was _ _ _ _ _ _ has (rw c.in_default.is at (seen.looks.told tells (copy_clear _ was _ _ _ _ _ _ has).tells)))))
 
-pub returns-in-Err-rename_to-clause-step : goal.returns-in-Err-rename_to-clause-step
-returns-in-Err-rename_to-clause-step g c = λ was bytes f.
-    let seen = c.in-Ok-Some.ensures in
-    fault_as
-    (after_look seen.looks.only (c.in-Err-rename_to.ensures.step was bytes f)
-    (λ tells has. record { needs = index_place _ was _ _ _ _ _ _ has c.in-Ok-Some.at (rw c.in-Ok-Some.field-0-is at (seen.looks.told tells (copy_clear _ was _ _ _ _ _ _ has).tells)); cut = λ d cut. cut; done = λ d ok done. done }))
+pub returns-in_err-rename_to-clause-step : goal.returns-in_err-rename_to-clause-step
+returns-in_err-rename_to-clause-step g c = λ was bytes f.
+    let seen = c.in_ok-at.ensures in
+    fault_passes
+    (after_look seen.looks.only (c.in_err-rename_to.ensures.step was bytes f)
+    (λ tells has. record { needs = index_place _ was _ _ _ _ _ _ has c.in-Some.at (rw c.in-Some.is at (seen.looks.told tells (copy_clear _ was _ _ _ _ _ _ has).tells)); cut = λ d cut. cut; done = λ d ok done. done }))
+    c.from_residual-in_err-rename_to.ensures.0 c.from_residual-in_err-rename_to.ensures.1
 
-pub returns-in-Ok-clause-step : goal.returns-in-Ok-clause-step
-returns-in-Ok-clause-step g c = λ was bytes f.
-    let seen = c.in-Ok-Some.ensures in
+pub returns-clause-step : goal.returns-clause-step
+returns-clause-step g c = λ was bytes f.
+    let seen = c.in_ok-at.ensures in
     done_as
-    (after_look seen.looks.only (c.in-Ok.ensures.step was bytes f)
-    (λ tells has. record { needs = index_place _ was _ _ _ _ _ _ has c.in-Ok-Some.at (rw c.in-Ok-Some.field-0-is at (seen.looks.told tells (copy_clear _ was _ _ _ _ _ _ has).tells)); cut = λ d cut. cut; done = λ d ok done. done }))
+    (after_look seen.looks.only (c.in_ok-rename_to.ensures.step was bytes f)
+    (λ tells has. record { needs = index_place _ was _ _ _ _ _ _ has c.in-Some.at (rw c.in-Some.is at (seen.looks.told tells (copy_clear _ was _ _ _ _ _ _ has).tells)); cut = λ d cut. cut; done = λ d ok done. done }))
 
-pub returns-in-Err-clause-few : goal.returns-in-Err-clause-few
-returns-in-Err-clause-few g c = omega (arith, c.in-Err.ensures.looks.only.reads.writes)
+pub returns-in_err-at-clause-few : goal.returns-in_err-at-clause-few
+returns-in_err-at-clause-few g c = omega (arith, c.in_err-at.ensures.looks.only.reads.writes)
 
-pub returns-in-Ok-None-clause-few : goal.returns-in-Ok-None-clause-few
-returns-in-Ok-None-clause-few g c = omega (arith, c.in-Ok-None.ensures.looks.only.reads.writes)
+pub returns-in_default-clause-few : goal.returns-in_default-clause-few
+returns-in_default-clause-few g c = omega (arith, c.in_ok-at.ensures.looks.only.reads.writes)
 
-pub returns-in-Err-rename_to-clause-few : goal.returns-in-Err-rename_to-clause-few
-returns-in-Err-rename_to-clause-few g c = omega (arith, c.in-Ok-Some.ensures.looks.only.reads.writes, c.in-Err-rename_to.ensures.few)
+pub returns-in_err-rename_to-clause-few : goal.returns-in_err-rename_to-clause-few
+returns-in_err-rename_to-clause-few g c = omega (arith, c.in_ok-at.ensures.looks.only.reads.writes, c.in_err-rename_to.ensures.few)
 
-pub returns-in-Ok-clause-few : goal.returns-in-Ok-clause-few
-returns-in-Ok-clause-few g c = omega (arith, c.in-Ok-Some.ensures.looks.only.reads.writes, c.in-Ok.ensures.few)
+pub returns-clause-few : goal.returns-clause-few
+returns-clause-few g c = omega (arith, c.in_ok-at.ensures.looks.only.reads.writes, c.in_ok-rename_to.ensures.few)
