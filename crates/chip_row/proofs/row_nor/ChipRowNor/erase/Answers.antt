@@ -1,4 +1,4 @@
-use Rattle.std.proofs.Common.{◌≡◌, ℕ, ◌*◌, ◌/◌, ◌≤◌, OnOk, OnErr, sym, subst, arith, rules}
+use Rattle.std.proofs.Common.{◌≡◌, ℕ, ◌*◌, ◌≤◌, OnOk, OnErr, sym, subst, arith, rules}
 use Rattle.nor_core.specs.Flash.{erased, HalfErased}
 use Rattle.nor_core.specs.Device.{Changes}
 use Rattle.chip_row.specs.contracts.row.ChipRowNorState.TheImpl.{ghosts}
