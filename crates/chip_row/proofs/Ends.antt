@@ -1,5 +1,5 @@
 -- Chips end to end: what a call on one of them leaves of all.
-use Rattle.std.proofs.Common.{◌≡◌, ℕ, zero, suc, ◌+◌, ◌-◌, ◌*◌, ◌<◌, ◌≤◌, ◌⊎◌, max, inl, inr, ⊎_elim, List, [], ◌∷◌, ◌++◌, length, get_or, set, refl, sym, ◌∙◌, ap, subst, arith, length-append, append_assoc, Some, OnOk, OnErr, Ok, Err, Result}
+use Rattle.std.proofs.Common.{◌≡◌, ℕ, zero, suc, ◌+◌, ◌*◌, ◌<◌, ◌≤◌, ◌⊎◌, max, inl, inr, ⊎_elim, List, [], ◌∷◌, ◌++◌, length, get_or, set, refl, sym, ◌∙◌, ap, subst, arith, length-append, append_assoc, Some, OnOk, OnErr, Ok, Err, Result}
 use Rattle.std.proofs.lemmas.Grind.{flat_map-append}
 use Rattle.std.proofs.lemmas.List.Elements.{All-head, All-tail, All-cons, All-nil, All-weaker, All-append}
 use Rattle.std.specs.List.{All, flat_map, slice_get, slice_range}
@@ -11,7 +11,7 @@ use Rattle.nor_core.specs.Count.{Rose}
 use Rattle.nor_core.specs.Flash.{programmed, HalfProgrammed, erased, HalfErased}
 use Rattle.chip_row.specs.declared.numbers.Numbers.{Numbers}
 use Rattle.chip_row.specs.Chips.{ChipOf, ChipHonest, InChipErase}
-use Rattle.chip_row.specs.Rows.{AllFit, RowTells, latest, LeftAt, RowLeft, OneOther, OneChanged, OneRead, ChipRose}
+use Rattle.chip_row.specs.Rows.{AllFit, RowTells, latest, LeftAt, RowLeft, OneOther, OthersAt, OneChanged, OneRead, ChipRose}
 use Rattle.chip_row.specs.RowLaws.{all_sized, all_stand, all_past}
 use Rattle.chip_row.proofs.Parts.{lt_or_le, half_parts, programmed_parts, erased_parts, slice_parts, below_append, half_erased_parts}
 
@@ -75,6 +75,14 @@ split_set (x ∷ xs) (suc i) v within =
       other = record { before = x ∷ s.other.before; after = s.other.after; old_is = ap (λ l. x ∷ l) s.other.old_is; new_is = ap (λ l. x ∷ l) s.other.new_is; at_place = ap suc s.other.at_place };
       item = s.item;
     }
+
+-- and in which all others stay
+pub set_others : {X : Type 0} (xs : List X) (i : ℕ) (v : X) → OthersAt i xs (set xs i v)
+set_others [] i v k other = refl
+set_others (x ∷ xs) zero v zero other = absurd (other refl)
+set_others (x ∷ xs) zero v (suc k) other = refl
+set_others (x ∷ xs) (suc i) v zero other = refl
+set_others (x ∷ xs) (suc i) v (suc k) other = set_others xs i v k (λ same. other (ap suc same))
 
 -- the one behind a front
 slice_get-behind : {X : Type 0} (xs : List X) (x : X) (ys : List X) → slice_get (xs ++ x ∷ ys) (length xs) ≡ Some x
@@ -187,8 +195,8 @@ module _ {D : Type 0} (chip : ChipOf D) where
       (all_below chips (All-tail (λ c. ChipHonest chip c) c chips honest) (All-tail (λ c. chip.tells c) c chips tells)) k
 
   -- a call on one chip that tells its bytes: what a cut may leave, and what stands, of all
-  module _ (row : Numbers) (n place : ℕ) (old new : List D) (R : List ℕ → List ℕ → List ℕ → Type 0) (S : List ℕ → List ℕ → Type 0) (result : Result (Unit {0}) Failed)
-      (one : OneChanged chip (n + 1) place old new R S result) (good : AllFit chip row n old) (honest : All (λ c. ChipHonest chip c) new) where
+  module _ {row : Numbers} {n place : ℕ} {old new : List D} {R : List ℕ → List ℕ → List ℕ → Type 0} {S : List ℕ → List ℕ → Type 0} {result : Result (Unit {0}) Failed}
+      (good : AllFit chip row n old) (one : OneChanged chip (n + 1) place old new R S result) where
     -- the chips fit the row after the call
     pub fit_after : AllFit chip row (n + 1) new
     fit_after = record {
@@ -198,7 +206,7 @@ module _ {D : Type 0} (chip : ChipOf D) where
         units = all_new one.other (λ c. chip.unit c ≡ row.unit) good.sized.units (one.changes.unit ∙ all_was one.other (λ c. chip.unit c ≡ row.unit) good.sized.units);
       };
       past = all_new one.other (λ c. chip.last c ≤ n + 1) (All-weaker (λ c. chip.last c ≤ n) (λ c. chip.last c ≤ n + 1) (λ c h. omega (arith, h)) old good.past) (omega (arith, one.changes.last));
-      honest = honest;
+      honest = one.honest;
     }
 
     -- and tell their bytes as before
@@ -240,7 +248,7 @@ module _ {D : Type 0} (chip : ChipOf D) where
         let part : R (chip.bytes one.was) (chip.bytes one.is) p.part = ⊎_elim
         (λ here. one.changes.at_now p.part told (subst (λ (k : ℕ). chip.left_at one.is k p.part) (omega (arith, here, low)) p.left_part))
         (λ past_it. subst (R (chip.bytes one.was) (chip.bytes one.is))
-        (sym ((all_is one.other (λ c. ChipHonest chip c) honest).only_after m p.part (omega (arith, one.changes.last, past_it)) (one.changes.told told) p.left_part)) (one.changes.stands told))
+        (sym ((all_is one.other (λ c. ChipHonest chip c) one.honest).only_after m p.part (omega (arith, one.changes.last, past_it)) (one.changes.told told) p.left_part)) (one.changes.stands told))
         (lt_or_le m (n + 2)) in
         (p.part, part, p.is ∙ ap (λ (l : List ℕ). l ++ (p.part ++ p.last)) first ∙ ap (λ (l : List ℕ). flat_map (λ c. chip.bytes c) one.other.before ++ (p.part ++ l)) last)
 
@@ -261,7 +269,7 @@ module _ {D : Type 0} (chip : ChipOf D) where
     pub row_kept : (t : ℕ) (image : List ℕ) (count : ℕ) → RowLeft chip n old t image count → RowLeft chip (n + 1) new t image count
     row_kept t image count left = (left.0, left.1, omega (arith, left.2), part_for (turned one.other) left.0 image (λ part. one.changes.kept left.0 part left.2) left.3, left.4)
 
-module _ {D : Type 0} (chip : ChipOf D) (row : Numbers) (n place : ℕ) (old new : List D) (result : Result (Unit {0}) Failed) (good : AllFit chip row n old) (honest : All (λ c. ChipHonest chip c) new) where
+module _ {D : Type 0} (chip : ChipOf D) {row : Numbers} {n place : ℕ} {old new : List D} {result : Result (Unit {0}) Failed} (good : AllFit chip row n old) where
   -- a program of one chip
   module _ (at : ℕ) (asked : List ℕ) (fits : at + length asked ≤ row.chip_size)
       (one : OneChanged chip (n + 1) place old new (λ was is image. HalfProgrammed at asked was image) (λ was is. OnOk result (is ≡ programmed was at asked)) result) where
@@ -269,8 +277,8 @@ module _ {D : Type 0} (chip : ChipOf D) (row : Numbers) (n place : ℕ) (old new
     pub lift_program : All (λ c. chip.tells c) old → (part : List ℕ) → HalfProgrammed at asked (chip.bytes one.was) part
         → HalfProgrammed (place * row.chip_size + at) asked (flat_map (λ c. chip.bytes c) old) (flat_map (λ c. chip.bytes c) one.other.before ++ (part ++ flat_map (λ c. chip.bytes c) one.other.after))
     lift_program tells part half =
-        let long = was_sized chip row n place old new _ _ result one good honest tells in
-        let here = at_chip chip row n place old new _ _ result one good honest tells in
+        let long = was_sized chip good one tells in
+        let here = at_chip chip good one tells in
         subst (λ (l : List ℕ). HalfProgrammed (place * row.chip_size + at) asked l (flat_map (λ c. chip.bytes c) one.other.before ++ (part ++ flat_map (λ c. chip.bytes c) one.other.after))) (sym (old_parts one.other (λ c. chip.bytes c)))
         (subst (λ (k : ℕ). HalfProgrammed (k + at) asked (flat_map (λ c. chip.bytes c) one.other.before ++ (chip.bytes one.was ++ flat_map (λ c. chip.bytes c) one.other.after)) (flat_map (λ c. chip.bytes c) one.other.before ++ (part ++ flat_map (λ c. chip.bytes c) one.other.after))) here
         (half_parts (flat_map (λ c. chip.bytes c) one.other.before) (flat_map (λ c. chip.bytes c) one.other.after) at asked (chip.bytes one.was) part (omega (arith, long, fits)) half))
@@ -278,8 +286,8 @@ module _ {D : Type 0} (chip : ChipOf D) (row : Numbers) (n place : ℕ) (old new
     -- is a program of all
     pub program_done : RowTells chip row n old → OnOk result (flat_map (λ c. chip.bytes c) new ≡ programmed (flat_map (λ c. chip.bytes c) old) (place * row.chip_size + at) asked)
     program_done tells = on_ok result (λ whole.
-        (let long = was_sized chip row n place old new _ _ result one good honest tells.each in
-        let here = at_chip chip row n place old new _ _ result one good honest tells.each in
+        (let long = was_sized chip good one tells.each in
+        let here = at_chip chip good one tells.each in
         new_parts one.other (λ c. chip.bytes c)
         ∙ ap (λ (l : List ℕ). flat_map (λ c. chip.bytes c) one.other.before ++ (l ++ flat_map (λ c. chip.bytes c) one.other.after)) whole
         ∙ sym (programmed_parts (flat_map (λ c. chip.bytes c) one.other.before) (flat_map (λ c. chip.bytes c) one.other.after) at asked (chip.bytes one.was) (omega (arith, long, fits)))
@@ -294,11 +302,11 @@ module _ {D : Type 0} (chip : ChipOf D) (row : Numbers) (n place : ℕ) (old new
     half_lifted : All (λ c. chip.tells c) old → (part : List ℕ) → HalfErased start unit mark (chip.bytes one.was) part
         → HalfErased (place * row.chip_size + start) unit mark (flat_map (λ c. chip.bytes c) old) (flat_map (λ c. chip.bytes c) one.other.before ++ (part ++ flat_map (λ c. chip.bytes c) one.other.after))
     half_lifted tells part half =
-        let long = was_sized chip row n place old new _ _ result one good honest tells in
-        let here = at_chip chip row n place old new _ _ result one good honest tells in
+        let long = was_sized chip good one tells in
+        let here = at_chip chip good one tells in
         subst (λ (l : List ℕ). HalfErased (place * row.chip_size + start) unit mark l (flat_map (λ c. chip.bytes c) one.other.before ++ (part ++ flat_map (λ c. chip.bytes c) one.other.after))) (sym (old_parts one.other (λ c. chip.bytes c)))
         (subst (λ (k : ℕ). HalfErased (k + start) unit mark (flat_map (λ c. chip.bytes c) one.other.before ++ (chip.bytes one.was ++ flat_map (λ c. chip.bytes c) one.other.after)) (flat_map (λ c. chip.bytes c) one.other.before ++ (part ++ flat_map (λ c. chip.bytes c) one.other.after))) here
-        (half_erased_parts mark (flat_map (λ c. chip.bytes c) one.other.before) (flat_map (λ c. chip.bytes c) one.other.after) (chip.bytes one.was) part start unit marked (omega (arith, long, fits)) (below_front chip row n place old new _ _ result one good honest tells) (below_back chip row n place old new _ _ result one good honest tells) half))
+        (half_erased_parts mark (flat_map (λ c. chip.bytes c) one.other.before) (flat_map (λ c. chip.bytes c) one.other.after) (chip.bytes one.was) part start unit marked (omega (arith, long, fits)) (below_front chip good one tells) (below_back chip good one tells) half))
 
     -- what a cut may leave of it, seen in all
     pub lift_erase : All (λ c. chip.tells c) old → (part : List ℕ) → InChipErase start unit mark (chip.bytes one.was) (chip.bytes one.is) part
@@ -311,8 +319,8 @@ module _ {D : Type 0} (chip : ChipOf D) (row : Numbers) (n place : ℕ) (old new
     -- is an erase in all
     pub erase_done : RowTells chip row n old → OnOk result (flat_map (λ c. chip.bytes c) new ≡ erased (flat_map (λ c. chip.bytes c) old) (place * row.chip_size + start) unit)
     erase_done tells = on_ok result (λ whole.
-        (let long = was_sized chip row n place old new _ _ result one good honest tells.each in
-        let here = at_chip chip row n place old new _ _ result one good honest tells.each in
+        (let long = was_sized chip good one tells.each in
+        let here = at_chip chip good one tells.each in
         new_parts one.other (λ c. chip.bytes c)
         ∙ ap (λ (l : List ℕ). flat_map (λ c. chip.bytes c) one.other.before ++ (l ++ flat_map (λ c. chip.bytes c) one.other.after)) whole
         ∙ sym (erased_parts (flat_map (λ c. chip.bytes c) one.other.before) (flat_map (λ c. chip.bytes c) one.other.after) (chip.bytes one.was) start unit (omega (arith, long, fits)))
@@ -326,8 +334,8 @@ module _ {D : Type 0} (chip : ChipOf D) (row : Numbers) (n place : ℕ) (old new
         (one.done (all_was one.other (λ c. chip.tells c) tells.each)).1
 
 -- bytes of one chip are read
-module _ {D : Type 0} (chip : ChipOf D) (row : Numbers) (n place at count : ℕ) (old new : List D) (into : List ℕ) (result : Result (Unit {0}) Failed)
-    (one : OneRead chip place at count old new into result) (good : AllFit chip row n old) (honest : All (λ c. ChipHonest chip c) new) where
+module _ {D : Type 0} (chip : ChipOf D) {row : Numbers} {n place at count : ℕ} {old new : List D} {into : List ℕ} {result : Result (Unit {0}) Failed}
+    (good : AllFit chip row n old) (one : OneRead chip place at count old new into result) where
   -- the chips fit the row after it
   pub fit_read : AllFit chip row n new
   fit_read = record {
@@ -337,7 +345,7 @@ module _ {D : Type 0} (chip : ChipOf D) (row : Numbers) (n place at count : ℕ)
       units = all_new one.other (λ c. chip.unit c ≡ row.unit) good.sized.units (one.reads.unit ∙ all_was one.other (λ c. chip.unit c ≡ row.unit) good.sized.units);
     };
     past = all_new one.other (λ c. chip.last c ≤ n) good.past (subst (λ (k : ℕ). k ≤ n) (sym one.reads.last) (all_was one.other (λ c. chip.last c ≤ n) good.past));
-    honest = honest;
+    honest = one.honest;
   }
 
   -- they tell their bytes as before

@@ -1,6 +1,6 @@
 -- A part of a list of bytes, changed within the whole.
 use Rattle.std.proofs.Common.{◌≡◌, ℕ, zero, suc, ◌+◌, ◌-◌, ◌*◌, ◌/◌, ◌%◌, ◌<◌, ◌≤◌, ◌⊎◌, inl, inr, ⊎_elim, List, [], ◌∷◌, ◌++◌, length, get_or, take, drop, replicate, refl, sym, ◌∙◌, ap, subst, arith, length-append, append_assoc, length-drop, Some, None, OnOk, OnErr, Ok, Err, Result}
-use Rattle.std.proofs.lemmas.List.{take_all, length-take, length-replicate, get_or-take, get_or-drop, get_or_append_left, get_or-append-add, ext_get_or, take-append-le, drop-append-le, drop-drop}
+use Rattle.std.proofs.lemmas.List.{take_all, length-take, length-replicate, get_or-take, get_or-drop, get_or_append_left, get_or-append-add, take-append-le, drop-append-le, drop-drop}
 use Rattle.std.proofs.lemmas.Grind.{common_steps}
 use Rattle.std.specs.Int.Bits.{bit_and}
 use Rattle.std.proofs.lemmas.Nat.{and_le_r, div-add-mod'}

@@ -1,5 +1,5 @@
 -- A range of bytes in pieces, each in one chip, and what the calls of these leave together.
-use Rattle.std.proofs.Common.{◌≡◌, ℕ, ◌+◌, ◌-◌, ◌*◌, ◌/◌, ◌%◌, ◌<◌, ◌≤◌, ◌⊎◌, min, inl, inr, ⊎_elim, List, length, sym, ◌∙◌, ap, subst, refl, arith, Ok, Err, Result}
+use Rattle.std.proofs.Common.{◌≡◌, ℕ, ◌+◌, ◌-◌, ◌*◌, ◌/◌, ◌%◌, ◌<◌, ◌≤◌, ◌⊎◌, min, inl, inr, ⊎_elim, List, length, sym, ◌∙◌, ap, subst, refl, arith, Ok, Err, OnOk, Result}
 use Rattle.std.specs.Result.{IsErr}
 use Rattle.std.proofs.lemmas.Bool.{false≢true}
 use Rattle.std.proofs.lemmas.Nat.{div-add-mod'}
@@ -50,6 +50,11 @@ at_start at len size = inl refl
 -- a chip that holds some of a range holds some of a longer one
 pub holds_more : (size at n more place : ℕ) → n ≤ more → HoldsSome size at n place → HoldsSome size at more place
 holds_more size at n more place within holds = record { byte = holds.byte; below = omega (arith, holds.below, within); starts = holds.starts; ends = holds.ends }
+
+-- a failure gives nothing that an Ok would
+pub no_ok : (P : Type 0) (result : Result (Unit {0}) Failed) → IsErr result → OnOk result P
+no_ok P (Ok done) is = absurd (false≢true is)
+no_ok P (Err failed) is = tt
 
 module _ {C : Type 0} {chip : ChipOf C} where
   -- nothing was called

@@ -1,7 +1,9 @@
 -- What a call that asks chips of a row leaves of the row.
-use Rattle.std.specs.Prelude.{ℕ, ◌≡◌, ◌+◌, ◌*◌, ◌<◌, ◌≤◌, ◌⊎◌, slice_get, Some, OnOk, OnErr, Result}
+use Rattle.std.specs.Prelude.{ℕ, ◌≡◌, ◌+◌, ◌*◌, ◌<◌, ◌≤◌, ◌⊎◌, List, length, slice_get, slice_range, Some, OnOk, OnErr, Result}
 use Rattle.nor_core.specs.declared.device.Failed.{Failed}
 use Rattle.nor_core.specs.Count.{counted, last_count}
+use Rattle.nor_core.specs.declared.state.NorState.{Ghosts as NorOf}
+use Rattle.nor_core.specs.Device.{OnlyReads, Changes}
 use Rattle.chip_row.specs.declared.row.ChipRow.{ChipRow}
 use Rattle.chip_row.specs.Chips.{ChipOf}
 use Rattle.chip_row.specs.Rows.{AllFit, ChipRose}
@@ -42,3 +44,21 @@ pub record Asks {C : Type 0} (chip : ChipOf C) (Asked : ℕ → Type 0) (old new
   -- an Ok names no other chip than before, and a failure has one of these causes
   pub no_fuse : OnOk result (new.fuse ≡ old.fuse)
   pub blamed : OnErr result (Blamed chip Asked old new Other)
+
+-- What a read of `count` bytes from `at` on leaves that is part of a call of the row. `nor` is the row as a device.
+pub record RowRead {C : Type 0} (chip : ChipOf C) (nor : NorOf (ChipRow C)) (Asked : ℕ → Type 0) (at count : ℕ) (old new : ChipRow C) (into : List ℕ)
+    (result : Result (Unit {0}) Failed) : Type 0 where
+  pub read : nor.tells old → OnOk result (into ≡ slice_range (nor.bytes old) at (at + count))
+  pub sized : length into ≡ count
+  pub only_reads : OnlyReads nor old new
+  pub reads : new.reads ≡ old.reads
+  pub asks : Asks chip Asked old new result (Unfit chip old)
+
+-- What a program or an erase leaves that is part of one: R holds of what a cut in it may leave, and S of what stands.
+pub record RowChanged {C : Type 0} (chip : ChipOf C) (nor : NorOf (ChipRow C)) (Asked : ℕ → Type 0) (old new : ChipRow C)
+    (R : List ℕ → List ℕ → Type 0) (S : List ℕ → List ℕ → Type 0) (result : Result (Unit {0}) Failed) : Type 0 where
+  pub done : nor.tells old → S (nor.bytes old) (nor.bytes new)
+  pub changes : Changes nor old new R
+  pub reads : new.reads ≡ old.reads
+  pub writes : new.writes ≡ old.writes
+  pub asks : Asks chip Asked old new result (Stuck chip old new)

@@ -53,6 +53,10 @@ pub record OneOther {D : Type 0} (place : ℕ) (old new : List D) (was is : D) :
   pub new_is : new ≡ before ++ is ∷ after
   pub at_place : length before ≡ place
 
+-- all chips but the one at `place` stay
+abbrev pub OthersAt : {D : Type 0} → ℕ → List D → List D → Type 0
+OthersAt place old new = (k : ℕ) → k ≢ place → slice_get new k ≡ slice_get old k
+
 -- one of them was called at `now`: R holds of what a cut in the call may leave of it, and S of what stands
 pub record OneChanged {D : Type 0} (chip : ChipOf D) (now place : ℕ) (old new : List D) (R : List ℕ → List ℕ → List ℕ → Type 0) (S : List ℕ → List ℕ → Type 0)
     (result : Result (Unit {0}) Failed) : Type 0 where
@@ -62,6 +66,8 @@ pub record OneChanged {D : Type 0} (chip : ChipOf D) (now place : ℕ) (old new 
   pub changes : ChipChanges chip now was is (R (chip.bytes was) (chip.bytes is))
   pub done : chip.tells was → S (chip.bytes was) (chip.bytes is)
   pub cause : OnErr result (Rose (chip.faults was) (chip.faults is))
+  pub honest : All (λ c. ChipHonest chip c) new
+  pub others : OthersAt place old new
 
 -- `count` bytes of one of them were read
 pub record OneRead {D : Type 0} (chip : ChipOf D) (place at count : ℕ) (old new : List D) (into : List ℕ) (result : Result (Unit {0}) Failed) : Type 0 where
@@ -71,10 +77,8 @@ pub record OneRead {D : Type 0} (chip : ChipOf D) (place at count : ℕ) (old ne
   pub reads : ChipReads chip was is
   pub read : chip.tells was → OnOk result (into ≡ slice_range (chip.bytes was) at (at + count))
   pub cause : OnErr result (Rose (chip.faults was) (chip.faults is))
-
--- all chips but the one at `place` stay
-abbrev pub OthersAt : {D : Type 0} → ℕ → List D → List D → Type 0
-OthersAt place old new = (k : ℕ) → k ≢ place → slice_get new k ≡ slice_get old k
+  pub honest : All (λ c. ChipHonest chip c) new
+  pub others : OthersAt place old new
 
 -- the count of faults of the chip at `place` rose
 pub record ChipRose {D : Type 0} (chip : ChipOf D) (place : ℕ) (old new : List D) : Type 0 where

@@ -3,7 +3,7 @@ ghost use Rattle.std.specs.Prelude.{◌≡◌, ◌≢◌, ◌+◌, ◌*◌, ◌/
 ghost use Rattle.std.specs.Option.{ForSome};
 ghost use Rattle.nor_core.specs.Flash.{programmed, HalfProgrammed, erased, HalfErased};
 ghost use Rattle.chip_row.specs.Chips.{ChipHonest, InChipErase};
-ghost use Rattle.chip_row.specs.Rows.{latest, AllSized, AllFit, OneChanged, OneRead, OthersAt};
+ghost use Rattle.chip_row.specs.Rows.{latest, AllSized, AllFit, OneChanged, OneRead};
 
 use crate::numbers::Numbers;
 use crate::{Chip, ChipState};
@@ -61,9 +61,7 @@ pub(crate) fn read_one<C: Chip>(
     requires inside { i < length chips.old.items }
     requires fits { All (λ c. at + length into.old ≤ C.size c) chips.old.items }
     requires honest { All (λ c. ChipHonest C.ChipState c) chips.old.items }
-    ensures honest { All (λ c. ChipHonest C.ChipState c) chips.new.items }
-    ensures others { OthersAt i chips.old.items chips.new.items }
-    ensures one { OneRead C.ChipState i at (length into.old) chips.old.items chips.new.items
+    ensures { OneRead C.ChipState i at (length into.old) chips.old.items chips.new.items
         into.new result }
 {
     chips[i].read(at, into)
@@ -82,9 +80,7 @@ pub(crate) fn program_one<C: Chip>(
     requires later { All (λ c. C.last c < now) chips.old.items }
     requires honest { All (λ c. ChipHonest C.ChipState c) chips.old.items }
     requires fits { All (λ c. at + length from.now ≤ C.size c) chips.old.items }
-    ensures honest { All (λ c. ChipHonest C.ChipState c) chips.new.items }
-    ensures others { OthersAt i chips.old.items chips.new.items }
-    ensures one { OneChanged C.ChipState now i chips.old.items chips.new.items
+    ensures { OneChanged C.ChipState now i chips.old.items chips.new.items
         (λ was is image. HalfProgrammed at from.now was image)
         (λ was is. OnOk result (is ≡ programmed was at from.now)) result }
 {
@@ -106,9 +102,7 @@ pub(crate) fn erase_one<C: Chip>(
     requires units { All (λ c. C.unit c ≡ unit) chips.old.items }
     requires fits { All (λ c. unit_ix < C.size c / unit) chips.old.items }
     requires marked { ForSome mark (λ m. m.at + 2 ≤ unit) }
-    ensures honest { All (λ c. ChipHonest C.ChipState c) chips.new.items }
-    ensures others { OthersAt i chips.old.items chips.new.items }
-    ensures one { OneChanged C.ChipState now i chips.old.items chips.new.items
+    ensures { OneChanged C.ChipState now i chips.old.items chips.new.items
         (λ was is image. InChipErase (unit_ix * unit) unit mark was is image)
         (λ was is. OnOk result (is ≡ erased was (unit_ix * unit) unit) ×
         OnErr result (HalfErased (unit_ix * unit) unit mark was is)) result }

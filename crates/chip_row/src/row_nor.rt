@@ -6,7 +6,7 @@ ghost use Rattle.nor_core.specs.Flash.{programmed, HalfProgrammed, erased, HalfE
 ghost use Rattle.nor_core.specs.Device.{OnlyReads, Changes, InErase, Writes};
 ghost use Rattle.chip_row.specs.Chips.{InChipErase};
 ghost use Rattle.chip_row.specs.RowLaws.{row_sized, now_stands, now_counts};
-ghost use Rattle.chip_row.specs.Asks.{Asks, HoldsSome, Unfit, Stuck};
+ghost use Rattle.chip_row.specs.Asks.{Asks, HoldsSome, Unfit, Stuck, RowRead, RowChanged};
 
 use crate::answer::{faults_after, fuse_after};
 use crate::one::{erase_one, is_sound, program_one, read_one};
@@ -19,15 +19,9 @@ impl<C: Chip> ChipRow<C> {
         requires some { 0 < length into.old }
         requires inside { i < self.old.numbers.count }
         requires fits { at + length into.old ≤ self.old.numbers.chip_size }
-        ensures read { ⟦<ChipRow<C> as NorState>⟧.tells self.old → OnOk result (into.new ≡
-            slice_range (⟦<ChipRow<C> as NorState>⟧.bytes self.old)
-            (i * self.old.numbers.chip_size + at)
-            (i * self.old.numbers.chip_size + at + length into.old)) }
-        ensures only_reads { OnlyReads ⟦<ChipRow<C> as NorState>⟧ self.old self.new }
-        ensures length { length into.new ≡ length into.old }
-        ensures reads { self.new.reads ≡ self.old.reads }
-        ensures asks { Asks C.ChipState (λ place. place ≡ i) self.old self.new result
-            (Unfit C.ChipState self.old) }
+        ensures { RowRead C.ChipState ⟦<ChipRow<C> as NorState>⟧ (λ place. place ≡ i)
+            (i * self.old.numbers.chip_size + at) (length into.old) self.old self.new into.new
+            result }
     {
         if !is_sound(&self.chips, self.numbers, self.moment) {
             self.faults = self.faults.saturating_add(1);
@@ -44,16 +38,10 @@ impl<C: Chip> ChipRow<C> {
         requires some { 0 < length from.now }
         requires inside { i < self.old.numbers.count }
         requires fits { at + length from.now ≤ self.old.numbers.chip_size }
-        ensures done { ⟦<ChipRow<C> as NorState>⟧.tells self.old → OnOk result
-            (⟦<ChipRow<C> as NorState>⟧.bytes self.new ≡ programmed
-            (⟦<ChipRow<C> as NorState>⟧.bytes self.old) (i * self.old.numbers.chip_size + at)
-            from.now) }
-        ensures changes { Changes ⟦<ChipRow<C> as NorState>⟧ self.old self.new
-            (HalfProgrammed (i * self.old.numbers.chip_size + at) from.now) }
-        ensures reads { self.new.reads ≡ self.old.reads }
-        ensures writes { self.new.writes ≡ self.old.writes }
-        ensures asks { Asks C.ChipState (λ place. place ≡ i) self.old self.new result
-            (Stuck C.ChipState self.old self.new) }
+        ensures { let start = i * self.old.numbers.chip_size + at in RowChanged C.ChipState
+            ⟦<ChipRow<C> as NorState>⟧ (λ place. place ≡ i) self.old self.new
+            (HalfProgrammed start from.now)
+            (λ was is. OnOk result (is ≡ programmed was start from.now)) result }
     {
         if self.moment == u64::MAX || !is_sound(&self.chips, self.numbers, self.moment) {
             self.faults = self.faults.saturating_add(1);
@@ -71,23 +59,13 @@ impl<C: Chip> ChipRow<C> {
         requires inside { i < self.old.numbers.count }
         requires fits { unit_ix < self.old.numbers.chip_size / self.old.numbers.unit }
         requires marked { ForSome mark (λ m. m.at + 2 ≤ self.old.numbers.unit) }
-        ensures done { ⟦<ChipRow<C> as NorState>⟧.tells self.old → OnOk result
-            (⟦<ChipRow<C> as NorState>⟧.bytes self.new ≡ erased
-            (⟦<ChipRow<C> as NorState>⟧.bytes self.old)
-            (i * self.old.numbers.chip_size + unit_ix * self.old.numbers.unit)
-            self.old.numbers.unit) }
-        ensures half { ⟦<ChipRow<C> as NorState>⟧.tells self.old → OnErr result (HalfErased
-            (i * self.old.numbers.chip_size + unit_ix * self.old.numbers.unit)
-            self.old.numbers.unit mark (⟦<ChipRow<C> as NorState>⟧.bytes self.old)
-            (⟦<ChipRow<C> as NorState>⟧.bytes self.new)) }
-        ensures changes { Changes ⟦<ChipRow<C> as NorState>⟧ self.old self.new
-            (λ was image. InChipErase
-            (i * self.old.numbers.chip_size + unit_ix * self.old.numbers.unit)
-            self.old.numbers.unit mark was (⟦<ChipRow<C> as NorState>⟧.bytes self.new) image) }
-        ensures reads { self.new.reads ≡ self.old.reads }
-        ensures writes { self.new.writes ≡ self.old.writes }
-        ensures asks { Asks C.ChipState (λ place. place ≡ i) self.old self.new result
-            (Stuck C.ChipState self.old self.new) }
+        ensures { let unit = self.old.numbers.unit in
+            let start = i * self.old.numbers.chip_size + unit_ix * unit in
+            RowChanged C.ChipState ⟦<ChipRow<C> as NorState>⟧ (λ place. place ≡ i) self.old
+            self.new (λ was image. InChipErase start unit mark was
+            (⟦<ChipRow<C> as NorState>⟧.bytes self.new) image)
+            (λ was is. OnOk result (is ≡ erased was start unit) ×
+            OnErr result (HalfErased start unit mark was is)) result }
     {
         if self.moment == u64::MAX || !is_sound(&self.chips, self.numbers, self.moment) {
             self.faults = self.faults.saturating_add(1);
@@ -107,14 +85,9 @@ impl<C: Chip> ChipRow<C> {
     fn read_all(&mut self, at: u32, into: &mut [u8]) -> Result<(), Failed>
         requires inside { at + length into.old ≤ self.old.numbers.count *
             self.old.numbers.chip_size }
-        ensures read { ⟦<ChipRow<C> as NorState>⟧.tells self.old → OnOk result (into.new ≡
-            slice_range (⟦<ChipRow<C> as NorState>⟧.bytes self.old) at
-            (at + length into.old)) }
-        ensures only_reads { OnlyReads ⟦<ChipRow<C> as NorState>⟧ self.old self.new }
-        ensures reads { self.new.reads ≡ self.old.reads }
-        ensures asks { Asks C.ChipState
-            (HoldsSome self.old.numbers.chip_size at (length into.old)) self.old self.new result
-            (Unfit C.ChipState self.old) }
+        ensures { RowRead C.ChipState ⟦<ChipRow<C> as NorState>⟧
+            (HoldsSome self.old.numbers.chip_size at (length into.old)) at (length into.old)
+            self.old self.new into.new result }
     {
         let size = self.numbers.chip_size as usize;
         let mut done = 0;
@@ -132,16 +105,10 @@ impl<C: Chip> ChipRow<C> {
     fn program_all(&mut self, at: u32, from: &[u8]) -> Result<(), Failed>
         requires inside { at + length from.now ≤ self.old.numbers.count *
             self.old.numbers.chip_size }
-        ensures done { ⟦<ChipRow<C> as NorState>⟧.tells self.old → OnOk result
-            (⟦<ChipRow<C> as NorState>⟧.bytes self.new ≡ programmed
-            (⟦<ChipRow<C> as NorState>⟧.bytes self.old) at from.now) }
-        ensures changes { Changes ⟦<ChipRow<C> as NorState>⟧ self.old self.new
-            (HalfProgrammed at from.now) }
-        ensures reads { self.new.reads ≡ self.old.reads }
-        ensures writes { self.new.writes ≡ self.old.writes }
-        ensures asks { Asks C.ChipState
-            (HoldsSome self.old.numbers.chip_size at (length from.now)) self.old self.new result
-            (Stuck C.ChipState self.old self.new) }
+        ensures { RowChanged C.ChipState ⟦<ChipRow<C> as NorState>⟧
+            (HoldsSome self.old.numbers.chip_size at (length from.now)) self.old self.new
+            (HalfProgrammed at from.now)
+            (λ was is. OnOk result (is ≡ programmed was at from.now)) result }
     {
         let size = self.numbers.chip_size as usize;
         let mut done = 0;

@@ -1,13 +1,13 @@
 use Rattle.std.proofs.Common.{◌∙◌, ◌≡◌, ◌*◌, subst, OnOk, OnErr}
 use Rattle.nor_core.specs.Count.{Rose}
 use Rattle.nor_core.specs.Flash.{erased, HalfErased}
-use Rattle.chip_row.specs.Chips.{ChipChanges, InChipErase, ErasesUnit, HalfErasesUnit, InUnitErase}
-use Rattle.chip_row.proofs.Ends.{split_set, all_was}
+use Rattle.chip_row.specs.Chips.{ChipHonest, ChipChanges, InChipErase, ErasesUnit, HalfErasesUnit, InUnitErase}
+use Rattle.chip_row.proofs.Ends.{split_set, all_was, all_new, set_others}
 use Rattle.chip_row.proofs.one.erase_one.Goals as goal
 
-pub returns-clause-one : goal.returns-clause-one
+pub returns : goal.returns
 unfolding ErasesUnit HalfErasesUnit InUnitErase
-returns-clause-one g c =
+returns g c =
     let s = split_set c.args.chips.now.items c.args.i c.erase.new.self c.requires.inside in
     let same = c.index_mut.ensures.value ∙ s.item c.index_mut.result.now in
     let unit = all_was s.other (λ d. g.C.ChipState.unit d ≡ c.args.unit) c.requires.units in
@@ -24,4 +24,6 @@ returns-clause-one g c =
             (subst (λ d. g.C.ChipState.tells d → OnErr c.erase.result (HalfErased (c.args.unit_ix * g.C.ChipState.unit d) (g.C.ChipState.unit d) c.args.mark (g.C.ChipState.bytes d) (g.C.ChipState.bytes c.erase.new.self))) same c.erase.ensures.half tells),
       );
       cause = subst (λ d. OnErr c.erase.result (Rose (g.C.ChipState.faults d) (g.C.ChipState.faults c.erase.new.self))) same c.erase.ensures.cause;
+      honest = all_new s.other (λ d. ChipHonest g.C.ChipState d) c.requires.honest c.erase.ensures.honest;
+      others = set_others c.args.chips.now.items c.args.i c.erase.new.self;
     }

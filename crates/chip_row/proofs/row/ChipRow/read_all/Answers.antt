@@ -1,13 +1,13 @@
 use Rattle.std.proofs.Common.{◌≡◌, ℕ, ◌+◌, ◌-◌, ◌*◌, ◌/◌, ◌%◌, ◌<◌, ◌++◌, min, List, length, take, drop, ◌∙◌, refl, sym, ap, arith, rules}
 use Rattle.std.specs.List.{slice_range}
-use Rattle.std.proofs.lemmas.List.{length-take, length-drop, length-append}
+use Rattle.std.proofs.lemmas.List.{take_all, length-take, length-drop, length-append}
 use Rattle.std.proofs.lemmas.Slice.{take-put_mid}
 use Rattle.nor_core.proofs.Cuts.{reads_none, reads_then}
 use Rattle.chip_row.specs.declared.numbers.Numbers.{Numbers}
 use Rattle.chip_row.specs.Asks.{Unfit}
 use Rattle.chip_row.specs.contracts.row.ChipRowNorState.TheImpl.{ghosts}
 use Rattle.chip_row.proofs.Parts.{slice_join}
-use Rattle.chip_row.proofs.Pieces.{piece_of, at_start, at_chip_next, holds_more, asks_none, asks_ok, asks_err, asks_wider, asks_next}
+use Rattle.chip_row.proofs.Pieces.{piece_of, at_start, at_chip_next, holds_more, asks_none, asks_ok, asks_err, asks_wider, asks_next, no_ok}
 use Rattle.chip_row.proofs.row.ChipRow.read_all.Goals as goal
 
 pub loop-done-init : goal.loop-done-init
@@ -46,7 +46,7 @@ loop-done-preserved g c =
     let call = c.in_ok-read_in.ensures in
     let ys = c.read_in.new.into in
     let old = c.loop-done.into in
-    let long : length ys ≡ m = omega (arith, call.length, length-take (done + m - done) (drop done old), length-drop done old, inv.size, piece.within, f) in
+    let long : length ys ≡ m = omega (arith, call.sized, length-take (done + m - done) (drop done old), length-drop done old, inv.size, piece.within, f) in
     record {
       only_reads = reads_then inv.only_reads call.only_reads;
       size = omega (arith, length-append (take done old) (ys ++ drop (done + m - done) (drop done old)), length-append ys (drop (done + m - done) (drop done old)), length-drop (done + m - done) (drop done old), length-drop done old, length-take done old, long, f, inv.size, piece.within);
@@ -56,7 +56,7 @@ loop-done-preserved g c =
           ∙ ap (λ (l : List ℕ). l ++ ys) (inv.read tells)
           ∙ ap (λ (l : List ℕ). slice_range (nor.bytes was) at (at + done) ++ l) (read
           ∙ ap (λ (l : List ℕ). slice_range l (i * mid.numbers.chip_size + r) (i * mid.numbers.chip_size + r + length (take (done + m - done) (drop done old)))) inv.only_reads.bytes
-          ∙ ap (λ (k : ℕ). slice_range (nor.bytes was) (i * mid.numbers.chip_size + r) (i * mid.numbers.chip_size + r + k)) (sym call.length ∙ long)
+          ∙ ap (λ (k : ℕ). slice_range (nor.bytes was) (i * mid.numbers.chip_size + r) (i * mid.numbers.chip_size + r + k)) (sym call.sized ∙ long)
           ∙ ap (λ (k : ℕ). slice_range (nor.bytes was) k (k + m)) e)
           ∙ slice_join (nor.bytes was) at done m);
       within = piece.within;
@@ -65,11 +65,8 @@ loop-done-preserved g c =
       reads = call.reads ∙ inv.reads;
     }
 
-pub returns-in_err-read_in-clause-only_reads : goal.returns-in_err-read_in-clause-only_reads
-returns-in_err-read_in-clause-only_reads g c = reads_then c.loop-done.invariant.only_reads c.read_in.ensures.only_reads
-
-pub returns-in_err-read_in-clause-asks : goal.returns-in_err-read_in-clause-asks
-returns-in_err-read_in-clause-asks g c =
+pub returns-in_err-read_in : goal.returns-in_err-read_in
+returns-in_err-read_in g c =
     let was = c.args.self.now in
     let inv = c.loop-done.invariant in
     let at = c.args.at in
@@ -85,9 +82,24 @@ returns-in_err-read_in-clause-asks g c =
     let goes : Unfit g.C.ChipState c.loop-done.self → Unfit g.C.ChipState was = λ unfit fit. unfit (inv.asks.sound fit) in
     let all = asks_next size at done (length into) m i refl piece _ more inv.at_chip inv.asks c.in_err-read_in.ensures.asks goes in
     let wide = asks_wider _ (λ place holds. holds_more size at (done + m) (length into) place piece.within holds) (λ unfit. unfit) all in
-    asks_err c.from_residual.result c.from_residual.ensures.0 wide
+    record {
+      read = λ tells. no_ok _ c.from_residual.result c.from_residual.ensures.0;
+      sized = search rules;
+      only_reads = reads_then inv.only_reads c.read_in.ensures.only_reads;
+      reads = c.read_in.ensures.reads ∙ inv.reads;
+      asks = asks_err c.from_residual.result c.from_residual.ensures.0 wide;
+    }
 
-pub returns-clause-asks : goal.returns-clause-asks
-returns-clause-asks g c =
+pub returns : goal.returns
+returns g c =
+    let nor = (ghosts g.row.C g.C.Chip g.C.Chip-dict g.C.ChipState g.C.ChipState-dict g.C.Destruct-dict) in
     let inv = c.loop-done.invariant in
-    asks_ok (asks_wider _ (λ place holds. holds_more c.args.self.now.numbers.chip_size c.args.at c.loop-done.done (length c.args.into.now) place inv.within holds) (λ other. other) inv.asks)
+    let done = c.loop-done.done in
+    let all : done ≡ length c.args.into.now = omega (arith, c.loop-done-test.false, inv.size, inv.within) in
+    record {
+      read = λ tells. sym (take_all done c.loop-done.into (omega (arith, c.loop-done-test.false))) ∙ inv.read tells ∙ ap (λ (k : ℕ). slice_range (nor.bytes c.args.self.now) c.args.at (c.args.at + k)) all;
+      sized = inv.size;
+      only_reads = inv.only_reads;
+      reads = inv.reads;
+      asks = asks_ok (asks_wider _ (λ place holds. holds_more c.args.self.now.numbers.chip_size c.args.at c.loop-done.done (length c.args.into.now) place inv.within holds) (λ other. other) inv.asks);
+    }

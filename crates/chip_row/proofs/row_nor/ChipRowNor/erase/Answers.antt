@@ -1,4 +1,4 @@
-use Rattle.std.proofs.Common.{◌≡◌, ℕ, ◌*◌, ◌/◌, ◌≤◌, OnOk, OnErr, sym, subst, arith, rules}
+use Rattle.std.proofs.Common.{◌≡◌, ℕ, ◌*◌, ◌≤◌, OnOk, OnErr, sym, subst, arith, rules}
 use Rattle.nor_core.specs.Flash.{erased, HalfErased}
 use Rattle.nor_core.specs.Device.{Changes}
 use Rattle.chip_row.specs.contracts.row.ChipRowNorState.TheImpl.{ghosts}
@@ -22,7 +22,7 @@ returns-clause-done g c = λ tells. (
     let row = was.numbers in
     let p = unit_place row.count row.chip_size row.unit c.args.unit_ix row.some_unit row.whole c.requires.inside row.some_bytes in
     let new = c.erase_in.new.self in
-    subst (λ (k : ℕ). OnOk c.erase_in.result (nor.bytes new ≡ erased (nor.bytes was) k row.unit)) p.start (c.erase_in.ensures.done tells))
+    subst (λ (k : ℕ). OnOk c.erase_in.result (nor.bytes new ≡ erased (nor.bytes was) k row.unit)) p.start (c.erase_in.ensures.done tells).0)
 
 pub returns-clause-half : goal.returns-clause-half
 returns-clause-half g c = λ tells. (
@@ -31,7 +31,7 @@ returns-clause-half g c = λ tells. (
     let row = was.numbers in
     let p = unit_place row.count row.chip_size row.unit c.args.unit_ix row.some_unit row.whole c.requires.inside row.some_bytes in
     let new = c.erase_in.new.self in
-    subst (λ (k : ℕ). OnErr c.erase_in.result (HalfErased k row.unit c.args.mark (nor.bytes was) (nor.bytes new))) p.start (c.erase_in.ensures.half tells))
+    subst (λ (k : ℕ). OnErr c.erase_in.result (HalfErased k row.unit c.args.mark (nor.bytes was) (nor.bytes new))) p.start (c.erase_in.ensures.done tells).1)
 
 pub returns-clause-changes : goal.returns-clause-changes
 returns-clause-changes g c =
