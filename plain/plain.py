@@ -40,7 +40,7 @@ PACKAGES = [
     Package("liverymenhir", ["volume", "wear_scrub"], exported=["volume", "nor_core"], no_std=True),
     Package("spiffs", ["spiffs"]),
     Package("script_rows", ["script_rows"]),
-    Package("image_explain", ["image_explain"]),
+    Package("plain_explain", ["plain_explain"]),
     Package("plain_tests", ["host_tests", "firmware_example"]),
 ]
 

@@ -13,9 +13,9 @@ use Rattle.image_laws.proofs.Frames.{table_of-same, damaged_of-same}
 use Rattle.image_laws.proofs.Sounding.{mixed-from}
 use Rattle.nor_core.specs.Flash.{erased}
 use Rattle.nor_memory.proofs.Ranges.{put_size, written_back}
-use Rattle.image_plain.specs.declared.record.Record.{Record}
-use Rattle.image_plain.specs.Seen.{file as the_file}
-use Rattle.flat_plain.specs.Seen.{file}
+use Rattle.plain_image.specs.declared.record.Record.{Record}
+use Rattle.plain_image.specs.Seen.{file as the_file}
+use Rattle.plain_table.specs.Seen.{file}
 use Rattle.flash_trace.specs.declared.event.Event.{Event}
 use Rattle.flash_trace.specs.declared.event.Event.TheVariants.{Program, Erase, Say}
 use Rattle.flash_trace.specs.declared.case.Case.{Case}

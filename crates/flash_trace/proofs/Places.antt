@@ -9,8 +9,8 @@ use Rattle.call_script.specs.Lines.{lines, calls, calls_of}
 use Rattle.run_model.specs.Runs.{RunCall, IsCorner, IsFair, AreFair, asks_of, after_all, said_of, replies}
 use Rattle.run_model.proofs.Runs.{said_some, plain_fair, fair-append, asks-append, replies-append, after_all-append}
 use Rattle.trace_laws.specs.Standing.{call_of, line_of, IsUnanswered}
-use Rattle.flat_plain.specs.Moments.{moment_of, geometry_of}
-use Rattle.flat_plain.specs.declared.moment.PlainMoment.{PlainMoment}
+use Rattle.plain_table.specs.Moments.{moment_of, geometry_of}
+use Rattle.plain_table.specs.declared.moment.PlainMoment.{PlainMoment}
 use Rattle.flash_trace.specs.declared.case.Case.{Case}
 use Rattle.flash_trace.specs.declared.spot.Place.{Place}
 use Rattle.flash_trace.specs.declared.ways.Way.{Way}

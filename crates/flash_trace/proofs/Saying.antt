@@ -11,8 +11,8 @@ use Rattle.run_model.specs.Runs.{RunCall, IsFair, asks_of, after_all, replies, I
 use Rattle.run_model.proofs.Runs.{plain_fair, said_some}
 use Rattle.trace_laws.specs.Standing.{MayStand, IsInFirst, call_of}
 use Rattle.trace_laws.proofs.Standing.{in_first, before_first_only, part_of_first, stands_end, none_stands}
-use Rattle.flat_plain.specs.Seen.{file, files_of}
-use Rattle.flat_plain.specs.Moments.{moment_of}
+use Rattle.plain_table.specs.Seen.{file, files_of}
+use Rattle.plain_table.specs.Moments.{moment_of}
 use Rattle.flash_trace.specs.declared.case.Case.{Case}
 use Rattle.flash_trace.specs.declared.spot.Place.{Place}
 use Rattle.flash_trace.specs.declared.picture.Picture.{Picture}

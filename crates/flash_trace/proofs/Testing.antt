@@ -11,8 +11,8 @@ use Rattle.image_model.specs.Shared.{fits_over, shared_blocks}
 use Rattle.image_model.specs.Collect.{chosen_block, are_had}
 use Rattle.run_model.specs.Runs.{IsPart, LacksPage}
 use Rattle.table_model.specs.Window.{Moment, from_settled, IsAmong}
-use Rattle.flat_plain.specs.declared.file.PlainFile.{PlainFile}
-use Rattle.flat_plain.specs.Seen.{file, files_of}
+use Rattle.plain_table.specs.declared.file.PlainFile.{PlainFile}
+use Rattle.plain_table.specs.Seen.{file, files_of}
 use Rattle.flash_trace.specs.Good.{IsBegun, mixed_text, tight_text, unbegun_text}
 
 -- a test that tells a property

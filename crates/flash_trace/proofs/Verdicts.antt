@@ -13,9 +13,9 @@ use Rattle.image_model.specs.Tables.{table_of}
 use Rattle.call_script.specs.Lines.{calls}
 use Rattle.run_model.specs.Runs.{asks_of, replies}
 use Rattle.trace_laws.specs.Counting.{replies_in}
-use Rattle.flat_plain.specs.Moments.{moment_of}
-use Rattle.flat_plain.specs.declared.file.PlainFile.{PlainFile}
-use Rattle.flat_plain.specs.Seen.{file}
+use Rattle.plain_table.specs.Moments.{moment_of}
+use Rattle.plain_table.specs.declared.file.PlainFile.{PlainFile}
+use Rattle.plain_table.specs.Seen.{file}
 use Rattle.flash_trace.specs.declared.case.Case.{Case}
 use Rattle.flash_trace.specs.declared.event.Bytes.{Bytes}
 use Rattle.flash_trace.specs.declared.event.Event.{Event}

@@ -5,7 +5,7 @@ use Rattle.table_model.specs.Ask.{Ask}
 use Rattle.table_model.specs.Window.{Moment}
 use Rattle.call_script.specs.Lines.{lines, calls, calls_of}
 use Rattle.run_model.specs.Runs.{RunCall, AreFair, asks_of, after_all, replies}
-use Rattle.flat_plain.specs.Moments.{moment_of, geometry_of}
+use Rattle.plain_table.specs.Moments.{moment_of, geometry_of}
 use Rattle.flash_trace.specs.declared.case.Case.{Case}
 use Rattle.flash_trace.specs.declared.spot.Place.{Place}
 use Rattle.flash_trace.specs.declared.ways.Ahead.{Ahead}

@@ -8,9 +8,9 @@ use Rattle.image_model.specs.Live.{live_at}
 use Rattle.image_model.specs.Tables.{table_of}
 use Rattle.image_model.specs.Sound.{IsSound}
 use Rattle.run_model.specs.Runs.{IsPart, LacksPage}
-use Rattle.flat_plain.specs.declared.file.PlainFile.{PlainFile}
-use Rattle.flat_plain.specs.Seen.{file, files_of}
-use Rattle.flat_plain.specs.Moments.{moment_of}
+use Rattle.plain_table.specs.declared.file.PlainFile.{PlainFile}
+use Rattle.plain_table.specs.Seen.{file, files_of}
+use Rattle.plain_table.specs.Moments.{moment_of}
 use Rattle.flash_trace.specs.declared.case.Case.{Case}
 use Rattle.flash_trace.specs.declared.spot.Place.{Place}
 use Rattle.flash_trace.specs.declared.picture.Picture.{Picture}

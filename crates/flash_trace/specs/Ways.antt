@@ -6,8 +6,8 @@ use Rattle.table_model.specs.Steps.{steps}
 use Rattle.table_model.specs.Window.{Moment, after}
 use Rattle.run_model.specs.Runs.{IsCorner}
 use Rattle.trace_laws.specs.Standing.{line_of}
-use Rattle.flat_plain.specs.Seen.{files_of}
-use Rattle.flat_plain.specs.Moments.{moment_of, geometry_of}
+use Rattle.plain_table.specs.Seen.{files_of}
+use Rattle.plain_table.specs.Moments.{moment_of, geometry_of}
 use Rattle.flash_trace.specs.declared.ways.Way.{Way}
 use Rattle.flash_trace.specs.declared.ways.Ways.{Ways}
 use Rattle.flash_trace.specs.declared.ways.Ahead.{Ahead}

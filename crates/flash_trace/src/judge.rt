@@ -14,9 +14,9 @@ use crate::going::{Going, go_on, is_good};
 use crate::picture::picture_of;
 use crate::place::first_place;
 use crate::verdict::Verdict;
-use flat_plain::PlainMoment;
+use plain_table::PlainMoment;
 use geometry::Geometry;
-use image_plain::damaged_of;
+use plain_image::damaged_of;
 use nor_core::MemErr;
 use std::alloc::{AllocError, Global};
 

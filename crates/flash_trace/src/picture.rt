@@ -1,17 +1,17 @@
 // An image, and what it means.
 ghost use Rattle.std.specs.Prelude.{◌≡◌, ◌↔◌, ◌<◌, ℕ, length, map, IfOk, IsTrue};
 ghost use Rattle.image_model.specs.Places.{IsImage, has_magic as the_magic};
-ghost use Rattle.image_plain.specs.Seen.{file as the_file};
-ghost use Rattle.flat_plain.specs.Seen.{file as the_plain};
+ghost use Rattle.plain_image.specs.Seen.{file as the_file};
+ghost use Rattle.plain_table.specs.Seen.{file as the_plain};
 ghost use Rattle.flash_trace.specs.Events.{IsInside, image_after};
 ghost use Rattle.flash_trace.specs.Stands.{IsPicture, MeansSame};
 
 use crate::case::Case;
 use crate::changes::change_image;
 use crate::event::Event;
-use flat_plain::PlainFile;
+use plain_table::PlainFile;
 use geometry::Geometry;
-use image_plain::{Record, has_magic, is_same_live, is_sound, meaning_of};
+use plain_image::{Record, has_magic, is_same_live, is_sound, meaning_of};
 use std::alloc::{AllocError, Global};
 
 /// An image with its table, and whether it is sound with respect to the first one.

@@ -1,7 +1,7 @@
 // A place in a run of a script: some first calls were answered, and a part of the next reply was said.
 ghost use Rattle.std.specs.Prelude.{◌≡◌, ◌+◌, ◌<◌, ◌≤◌, ◌++◌, [], length, drop, true, false, IfOk};
 ghost use Rattle.call_script.specs.Lines.{calls_of, lines, of_line};
-ghost use Rattle.flat_plain.specs.Moments.{moment_of, geometry_of};
+ghost use Rattle.plain_table.specs.Moments.{moment_of, geometry_of};
 ghost use Rattle.flash_trace.specs.Good.{first_bad};
 ghost use Rattle.flash_trace.specs.Ways.{IsQuiet};
 ghost use Rattle.flash_trace.specs.Kinds.{IsKind};
@@ -12,7 +12,7 @@ use crate::lines::next_line;
 use crate::spot::{Found, Place};
 use crate::ways::{Ahead, Heard, Ways, both_ways, hear_ahead};
 use call_script::parse_line;
-use flat_plain::PlainMoment;
+use plain_table::PlainMoment;
 use std::alloc::{AllocError, Global};
 
 // What a line of a script is: no call, outside the grammar, or a call with the ways in which it may be answered.

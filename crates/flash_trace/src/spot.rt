@@ -2,7 +2,7 @@
 ghost use Rattle.std.specs.Prelude.{◌≤◌, length};
 
 use crate::ways::Ahead;
-use flat_plain::PlainMoment;
+use plain_table::PlainMoment;
 
 /// A place in a run of a script.
 #[derive(Drop)]

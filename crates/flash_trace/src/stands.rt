@@ -10,9 +10,9 @@ use crate::case::Case;
 use crate::picture::Picture;
 use crate::spot::Place;
 use crate::ways::{Ahead, Way, Ways, begins_with};
-use flat_plain::PlainFile;
+use plain_table::PlainFile;
 use geometry::Geometry;
-use image_collect::{are_had, chosen_block};
+use plain_collect::{are_had, chosen_block};
 use std::alloc::{AllocError, Global};
 
 // Whether these bytes are a front of a line, and not all of it.

@@ -2,12 +2,12 @@
 ghost use Rattle.std.specs.Prelude.{◌≡◌, ◌≤◌, ◌++◌, ◌∷◌, [], length, decimal, IfOk};
 ghost use Rattle.call_script.specs.Replies.{text};
 ghost use Rattle.call_script.specs.Pieces.{IsShort};
-ghost use Rattle.flat_plain.specs.Seen.{file as the_file, said as the_said};
+ghost use Rattle.plain_table.specs.Seen.{file as the_file, said as the_said};
 ghost use Rattle.table_model.specs.Files.{stat_of as the_stat};
 ghost use Rattle.table_model.specs.Reply.{Gives, answered};
 
 use call_script::{put, put_count, reply_text};
-use flat_plain::{PlainFile, Said};
+use plain_table::{PlainFile, Said};
 use std::alloc::{AllocError, Global};
 use table_model::{Meta, Name, Reply, Stat};
 

@@ -4,13 +4,13 @@ ghost use Rattle.table_model.specs.Ask.{asked};
 ghost use Rattle.table_model.specs.Flat.{answer};
 ghost use Rattle.call_script.specs.Replies.{text};
 ghost use Rattle.trace_laws.specs.Counting.{is_corner as the_corner};
-ghost use Rattle.flat_plain.specs.Seen.{said as the_said};
-ghost use Rattle.flat_plain.specs.Moments.{moment_of, geometry_of};
+ghost use Rattle.plain_table.specs.Seen.{said as the_said};
+ghost use Rattle.plain_table.specs.Moments.{moment_of, geometry_of};
 ghost use Rattle.flash_trace.specs.declared.ways.Ahead.TheVariants.{Call as ACall};
 ghost use Rattle.flash_trace.specs.Ways.{AreWays, IsHeard, IsTightWay, IsWay};
 
 use crate::text::text_of;
-use flat_plain::{PlainFile, PlainMoment, Said, Went, cuts_file, is_refusal};
+use plain_table::{PlainFile, PlainMoment, Said, Went, cuts_file, is_refusal};
 use std::alloc::{AllocError, Global};
 use table_model::Call;
 

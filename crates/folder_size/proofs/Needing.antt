@@ -9,9 +9,9 @@ use Rattle.geometry.specs.Numbers.{ceil, per_block, entries, page_count, write_r
 use Rattle.geometry.proofs.Bounds.{entry_left, some_pages, few_pages}
 use Rattle.image_laws.proofs.Serving.{ceil-enough}
 use Rattle.folder_core.specs.Files.{Entry}
-use Rattle.image_make.specs.declared.refusing.Refusal.{Refusal}
-use Rattle.image_make.specs.declared.refusing.Refusal.TheVariants.{BadNames, Full}
-use Rattle.image_make.specs.Refusals.{first_bad, index_sum, data_sum, make_refusal}
+use Rattle.folder_plan.specs.declared.refusing.Refusal.{Refusal}
+use Rattle.folder_plan.specs.declared.refusing.Refusal.TheVariants.{BadNames, Full}
+use Rattle.folder_plan.specs.Refusals.{first_bad, index_sum, data_sum, make_refusal}
 use Rattle.folder_size.specs.declared.told.Shape.{Shape}
 use Rattle.folder_size.specs.declared.told.Need.TheVariants.{Blocks, TooMany}
 use Rattle.folder_size.specs.Needs.{HasShape, written_refusal, IsLeast, IsBadName, IsNever, IsNeed, blocks_needed, most_blocks, need_by, need_for}

@@ -4,9 +4,9 @@ use Rattle.std.specs.Prelude.{nat_lt, sum_by, if◌then◌else◌}
 use Rattle.geometry.specs.declared.geometry.Geometry.{Geometry}
 use Rattle.geometry.specs.Numbers.{ceil, entries}
 use Rattle.folder_core.specs.Files.{Entry}
-use Rattle.image_make.specs.declared.refusing.Refusal.{Refusal}
-use Rattle.image_make.specs.declared.refusing.Refusal.TheVariants.{BadNames, Full}
-use Rattle.image_make.specs.Refusals.{first_bad, index_sum, data_sum, fits, refusal_by, make_refusal}
+use Rattle.folder_plan.specs.declared.refusing.Refusal.{Refusal}
+use Rattle.folder_plan.specs.declared.refusing.Refusal.TheVariants.{BadNames, Full}
+use Rattle.folder_plan.specs.Refusals.{first_bad, index_sum, data_sum, fits, refusal_by, make_refusal}
 use Rattle.folder_size.specs.declared.told.Shape.{Shape}
 use Rattle.folder_size.specs.Needs.{HasShape, blocks_needed}
 use Rattle.folder_size.proofs.Numbers.{entries-is}

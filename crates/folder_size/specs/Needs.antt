@@ -7,9 +7,9 @@ use Rattle.geometry.specs.declared.error.GeoErr.TheVariants.{TooManyUsable, TooF
 use Rattle.geometry.specs.Rules.{entries_in}
 use Rattle.geometry.specs.Numbers.{ceil, per_block, entries, refusal, write_refusal}
 use Rattle.folder_core.specs.Files.{Entry}
-use Rattle.image_make.specs.declared.refusing.Refusal.{Refusal}
-use Rattle.image_make.specs.declared.refusing.Refusal.TheVariants.{BadNames, Full}
-use Rattle.image_make.specs.Refusals.{index_sum, data_sum, make_refusal}
+use Rattle.folder_plan.specs.declared.refusing.Refusal.{Refusal}
+use Rattle.folder_plan.specs.declared.refusing.Refusal.TheVariants.{BadNames, Full}
+use Rattle.folder_plan.specs.Refusals.{index_sum, data_sum, make_refusal}
 use Rattle.folder_size.specs.declared.told.Shape.{Shape}
 use Rattle.folder_size.specs.declared.told.Need.{Need}
 use Rattle.folder_size.specs.declared.told.Need.TheVariants.{Blocks, BadName, TooMany, NoVolume}

@@ -23,7 +23,7 @@ use Rattle.image_laws.proofs.Damaged.{any_from, any_at, same_truth}
 use Rattle.image_laws.proofs.FreeBlocks.{filter-same}
 use Rattle.image_laws.proofs.Matching.{filter-none_in, count_one, count_by_key, sum-range, sum-records, weight}
 use Rattle.image_laws.proofs.Records.{bytes_same, bytes_equal}
-use Rattle.image_plain.specs.Leading.{is_text}
+use Rattle.plain_image.specs.Leading.{is_text}
 use Rattle.meta_tally.specs.Heads.{head_at, head_count}
 use Rattle.meta_tally.specs.Names.{is_named_at}
 use Rattle.meta_tally.specs.Wholes.{is_complete_at}

@@ -4,7 +4,7 @@ use Rattle.std.specs.Prelude.{find}
 use Rattle.std.specs.List.{range_with_len, list_any}
 use Rattle.std.proofs.Math.Nat.{mul-le-mul_right}
 use Rattle.std.proofs.lemmas.Option.{none-some}
-use Rattle.image_plain.proofs.Ranges.{range_step, range_end}
+use Rattle.plain_image.proofs.Ranges.{range_step, range_end}
 use Rattle.std.proofs.lemmas.Bool.{cases_eq, cases_Bool, cases_lt, eq-eqb, ne_eqb, or_cases, or_left, or_right, eqb-true, false≢true}
 use Rattle.image_model.specs.Tidy.{is_number}
 use Rattle.image_laws.proofs.Tables.{find_passes}

@@ -7,7 +7,7 @@ use Rattle.geometry.specs.Numbers.{page_count}
 use Rattle.image_model.specs.Places.{page_of}
 use Rattle.image_model.specs.Headers.{name_of}
 use Rattle.image_laws.proofs.Records.{bytes_same, bytes_equal}
-use Rattle.image_plain.specs.Leading.{is_text}
+use Rattle.plain_image.specs.Leading.{is_text}
 use Rattle.meta_tally.specs.Heads.{head_at}
 use Rattle.meta_tally.specs.Names.{name_mark, mark_by, mark_at, IsMarked, is_named_at}
 

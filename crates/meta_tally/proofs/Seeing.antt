@@ -12,11 +12,11 @@ use Rattle.image_model.specs.Live.{Live, live_at, own}
 use Rattle.image_model.specs.Files.{is_index, index_page}
 use Rattle.image_model.specs.Tidy.{is_number}
 use Rattle.image_laws.proofs.Frames.{live_parts}
-use Rattle.image_plain.specs.Counted.{Counts}
-use Rattle.image_plain.proofs.Ranges.{count_yes, count_no}
+use Rattle.plain_image.specs.Counted.{Counts}
+use Rattle.plain_image.proofs.Ranges.{count_yes, count_no}
 use Rattle.meta_tally.specs.Names.{mark_by, mark_at}
 use Rattle.std.specs.Prelude.{is_some}
-use Rattle.image_plain.proofs.Headed.{index_is, index_not, index_none}
+use Rattle.plain_image.proofs.Headed.{index_is, index_not, index_none}
 use Rattle.meta_tally.specs.Heads.{says, is_seen, Seen, unseen, with_seen, head_at}
 use Rattle.meta_tally.proofs.Finds.{find_is, any_more}
 

@@ -10,9 +10,9 @@ use Rattle.image_model.specs.Places.{page_of}
 use Rattle.image_model.specs.Headers.{name_of}
 use Rattle.image_laws.proofs.Damaged.{any_from, any_at, same_truth}
 use Rattle.image_laws.proofs.Records.{bytes_same}
-use Rattle.image_plain.specs.Counted.{Counts}
-use Rattle.image_plain.specs.Leading.{is_text}
-use Rattle.image_plain.proofs.Ranges.{count_yes, count_no, count_none, count_all}
+use Rattle.plain_image.specs.Counted.{Counts}
+use Rattle.plain_image.specs.Leading.{is_text}
+use Rattle.plain_image.proofs.Ranges.{count_yes, count_no, count_none, count_all}
 use Rattle.meta_tally.specs.Heads.{head_at}
 use Rattle.meta_tally.specs.Names.{name_number, mark_by, mark_at, IsMarked, is_named_at, Noted}
 use Rattle.meta_tally.specs.Wholes.{is_complete_at}

@@ -6,7 +6,7 @@ use Rattle.geometry.specs.Numbers.{page_count, IsOf}
 use Rattle.image_model.specs.Places.{page_of}
 use Rattle.image_model.specs.Headers.{name_of}
 use Rattle.image_model.specs.Tables.{table_of}
-use Rattle.image_plain.specs.Counted.{Counts}
+use Rattle.plain_image.specs.Counted.{Counts}
 use Rattle.meta_tally.specs.Heads.{head_at}
 use Rattle.meta_tally.specs.Names.{is_named_at}
 use Rattle.meta_tally.specs.Wholes.{is_complete_at}

@@ -5,7 +5,7 @@ use Rattle.geometry.specs.declared.geometry.Geometry.{Geometry}
 use Rattle.geometry.specs.Numbers.{page_count}
 use Rattle.image_model.specs.Places.{page_of}
 use Rattle.image_model.specs.Headers.{name_of}
-use Rattle.image_plain.specs.Leading.{is_text}
+use Rattle.plain_image.specs.Leading.{is_text}
 use Rattle.meta_tally.specs.Heads.{head_at}
 
 -- a number that files of one name have in common

@@ -11,7 +11,7 @@ ghost use Rattle.meta_tally.specs.Names.{mark_by, IsMarked};
 use crate::clearing::clear_bytes;
 use crate::names::name_mark;
 use geometry::Geometry;
-use image_plain::{live_at, name_of, page_of};
+use plain_image::{live_at, name_of, page_of};
 use page_layout::{INDEX_BIT, read_word};
 
 // Whether a page is a header page, by its own bytes.

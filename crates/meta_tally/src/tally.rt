@@ -5,7 +5,7 @@ ghost use Rattle.geometry.specs.declared.geometry.Geometry.{Geometry as AnyGeome
 ghost use Rattle.geometry.specs.Numbers.{page_count, IsOf};
 ghost use Rattle.image_model.specs.Places.{IsImage, page_of as the_page};
 ghost use Rattle.image_model.specs.Headers.{name_of as the_name};
-ghost use Rattle.image_plain.specs.Leading.{is_text};
+ghost use Rattle.plain_image.specs.Leading.{is_text};
 ghost use Rattle.image_model.specs.Tables.{table_of, damaged_of};
 ghost use Rattle.meta_tally.specs.Heads.{head_at, head_count};
 ghost use Rattle.meta_tally.specs.Names.{name_mark as the_name_mark, mark_at, is_named_at, IsMarked, Noted};
@@ -17,7 +17,7 @@ use crate::heads::mark_heads;
 use crate::names::{NUMBERS, name_mark, note_name};
 use crate::wholes::is_complete;
 use geometry::Geometry;
-use image_plain::{name_of, page_of};
+use plain_image::{name_of, page_of};
 use page_layout::{INDEX_BIT, read_word};
 
 /// Bytes that are lent for work.

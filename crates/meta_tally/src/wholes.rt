@@ -9,7 +9,7 @@ ghost use Rattle.image_model.specs.Files.{first_missing as the_first_missing};
 ghost use Rattle.meta_tally.specs.Wholes.{IsKnown};
 
 use geometry::Geometry;
-use image_plain::{own, size_of};
+use plain_image::{own, size_of};
 use page_layout::{INDEX_BIT, data_pages, read_word};
 
 // The index page of a span, once it was looked for.

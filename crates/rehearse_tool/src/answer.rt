@@ -1,17 +1,17 @@
 // What is said of a verdict, and the status.
 ghost use Rattle.std.specs.Prelude.{◌≡◌, ◌∷◌, ◌++◌, ◌<◌, ◌≤◌, ◌^◌, [], length, map, replicate, None, IfOk, OnOk};
 ghost use Rattle.arrayvec.specs.ArrayVec.{array_vec_len};
-ghost use Rattle.flat_plain.specs.Seen.{file};
+ghost use Rattle.plain_table.specs.Seen.{file};
 ghost use Rattle.promise_model.specs.Laws.{places_of};
-ghost use Rattle.promise_plain.specs.Seen.{fault as the_fault, broken as the_broken};
-ghost use Rattle.promise_plain.specs.Walks.{told};
+ghost use Rattle.plain_promise.specs.Seen.{fault as the_fault, broken as the_broken};
+ghost use Rattle.plain_promise.specs.Walks.{told};
 ghost use Rattle.rehearse_tool.specs.Outcomes.{IsJudged};
 ghost use Rattle.rehearse_tool.specs.Texts.{verdict_status, fault_line, verdict_line, shown_files, is_judged as the_judged, tables_text};
 ghost use Rattle.promise_model.specs.Verdicts.{AllKept, NotKept};
 
-use flat_plain::PlainFile;
+use plain_table::PlainFile;
 use geometry::Geometry;
-use promise_plain::{Broken, Fault, Verdict, list_tables, put_files, rehearse};
+use plain_promise::{Broken, Fault, Verdict, list_tables, put_files, rehearse};
 use std::alloc::{AllocError, Global};
 use tool_parts::{Closing, put, put_count};
 

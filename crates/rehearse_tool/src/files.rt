@@ -1,10 +1,10 @@
 // The files of a table that was read.
 ghost use Rattle.std.specs.Prelude.{◌≡◌, map, IfOk};
-ghost use Rattle.flat_plain.specs.Seen.{file};
-ghost use Rattle.image_plain.specs.Seen.{file as record_file};
+ghost use Rattle.plain_table.specs.Seen.{file};
+ghost use Rattle.plain_image.specs.Seen.{file as record_file};
 
-use flat_plain::PlainFile;
-use image_plain::Record;
+use plain_table::PlainFile;
+use plain_image::Record;
 use std::alloc::{AllocError, Global};
 
 // A file of the flat table with memory of its own.

@@ -4,7 +4,7 @@ use crate::bench::words_of;
 use crate::tables::is_same;
 use crate::{Bench, Fault, Swept, Told, Trouble, are_same, listed};
 use copy_tool::copy_tool;
-use image_plain::Record;
+use plain_image::Record;
 use nor_memory::CallKind;
 
 /// The status where the target's device failed.

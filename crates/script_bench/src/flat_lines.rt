@@ -1,9 +1,9 @@
 //! The flat table of a volume with files, and what it answers to lines of a script.
 use crate::{Bench, Trouble};
 use call_script::{parse_line, reply_text};
-use flat_plain::{Flat, PlainFile, Said};
+use plain_table::{Flat, PlainFile, Said};
 use geometry::Geometry;
-use image_plain::Record;
+use plain_image::Record;
 use table_model::{Call, Meta, Name, Reply, Stat};
 
 // Does a call of the flat table that is not to be refused.

@@ -1,7 +1,7 @@
 //! What a folder in memory holds.
 use crate::Trouble;
 use folder_core::{Folder, MemFolder};
-use image_plain::Record;
+use plain_image::Record;
 use std::alloc::Global;
 
 // Whether file `i` of a folder has a file's name and bytes.

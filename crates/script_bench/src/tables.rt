@@ -1,8 +1,8 @@
 //! What the plain programs and a reader tell of an image.
 use crate::{Bench, Trouble};
-use flat_plain::{Flat, PlainFile, Said};
+use plain_table::{Flat, PlainFile, Said};
 use geometry::Geometry;
-use image_plain::{Record, free_blocks, holds_volume, is_tidy, table_of};
+use plain_image::{Record, free_blocks, holds_volume, is_tidy, table_of};
 use nor_memory::MemBoard;
 use std::alloc::Global;
 use table_model::Stat;

@@ -1,9 +1,9 @@
 //! What `list` and `check` are to say of an image, by the plain programs.
 use crate::Trouble;
 use geometry::Geometry;
-use image_collect::parting;
+use plain_collect::parting;
 use image_model::Damage;
-use image_plain::{damaged_of, free_blocks, holds_volume, killed_of, spoiled_blocks, table_of};
+use plain_image::{damaged_of, free_blocks, holds_volume, killed_of, spoiled_blocks, table_of};
 use std::alloc::Global;
 
 /// What a command is to say, and its status.

@@ -18,8 +18,8 @@ use Rattle.volume.specs.Replies.{told}
 use Rattle.volume.specs.Settles.{SettledOr}
 use Rattle.volume.specs.Stages.{takes_calls}
 use Rattle.volume.proofs.RunSettling.{unmounts_open}
-use Rattle.image_make.specs.declared.refusing.Refusal.{Refusal}
-use Rattle.image_make.specs.declared.refusing.Refusal.TheVariants.{BadNames, Full as NoRoom}
+use Rattle.folder_plan.specs.declared.refusing.Refusal.{Refusal}
+use Rattle.folder_plan.specs.declared.refusing.Refusal.TheVariants.{BadNames, Full as NoRoom}
 use Rattle.tool_parts.specs.declared.ending.Ending.{Ending}
 use Rattle.tool_parts.specs.declared.ending.Ending.TheVariants.{Done, NotAFs, Mixed, BoardFault, Damaged, Tight, Differ}
 use Rattle.tool_parts.specs.Among.{MayEndCheck, MayEndWork}

@@ -12,11 +12,11 @@ use Rattle.table_model.specs.declared.reply.Info.{Info}
 use Rattle.folder_core.specs.declared.state.FolderState.{Ghosts as FolderOf}
 use Rattle.folder_core.specs.Files.{Entry}
 use Rattle.folder_core.specs.Puts.{Kept}
-use Rattle.image_make.specs.declared.refusing.Refusal.{Refusal}
-use Rattle.image_make.specs.declared.refusing.Refusal.TheVariants.{BadNames, Full as NoRoom}
-use Rattle.image_make.specs.Refusals.{index_sum, make_refusal}
-use Rattle.image_make.specs.Tables.{folder_table}
-use Rattle.image_make.proofs.Keeping.{kept_then}
+use Rattle.folder_plan.specs.declared.refusing.Refusal.{Refusal}
+use Rattle.folder_plan.specs.declared.refusing.Refusal.TheVariants.{BadNames, Full as NoRoom}
+use Rattle.folder_plan.specs.Refusals.{index_sum, make_refusal}
+use Rattle.folder_plan.specs.Tables.{folder_table}
+use Rattle.folder_plan.proofs.Keeping.{kept_then}
 use Rattle.vol_mount.specs.Formatted.{IsFormatted}
 use Rattle.volume.specs.declared.volume.Volume.{Volume}
 use Rattle.volume_make.specs.Making.{made_text, make_text, IsMade}

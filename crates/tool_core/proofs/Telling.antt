@@ -5,7 +5,7 @@ use Rattle.geometry.specs.declared.geometry.Geometry.{Geometry}
 use Rattle.table_model.specs.Table.{File, file_of}
 use Rattle.folder_core.specs.Files.{File as FolderFile, entries_of, size_at}
 use Rattle.image_model.specs.Tables.{table_of}
-use Rattle.image_make.specs.Tables.{file_as, numbered, folder_table}
+use Rattle.folder_plan.specs.Tables.{file_as, numbered, folder_table}
 use Rattle.meta_laws.specs.Other.{HasPlainFile}
 use Rattle.tool_core.specs.Telling.{HasSome, MadeTells}
 

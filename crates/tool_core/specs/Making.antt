@@ -7,10 +7,10 @@ use Rattle.flash_view.specs.Same.{StaysBehind}
 use Rattle.folder_core.specs.declared.state.FolderState.{Ghosts as FolderOf}
 use Rattle.folder_core.specs.Files.{File as FolderFile, entries_of}
 use Rattle.folder_core.specs.Puts.{Kept}
-use Rattle.image_make.specs.declared.refusing.Refusal.{Refusal}
-use Rattle.image_make.specs.declared.refusing.Refusal.TheVariants.{BadNames, Full as NoRoom}
-use Rattle.image_make.specs.Refusals.{make_refusal}
-use Rattle.image_make.specs.Tables.{folder_table}
+use Rattle.folder_plan.specs.declared.refusing.Refusal.{Refusal}
+use Rattle.folder_plan.specs.declared.refusing.Refusal.TheVariants.{BadNames, Full as NoRoom}
+use Rattle.folder_plan.specs.Refusals.{make_refusal}
+use Rattle.folder_plan.specs.Tables.{folder_table}
 use Rattle.volume_make.specs.Making.{make_text}
 use Rattle.tool_parts.specs.declared.ending.Ending.{Ending}
 use Rattle.tool_parts.specs.declared.ending.Ending.TheVariants.{Done, Full, FolderFault, BadName}

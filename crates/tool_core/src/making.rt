@@ -3,7 +3,7 @@ ghost use Rattle.geometry.specs.Numbers.{write_refusal, work_need, cache_need, c
 ghost use Rattle.nor_core.specs.Count.{Rose};
 ghost use Rattle.folder_core.specs.Puts.{Kept};
 ghost use Rattle.flash_view.specs.Same.{StaysBehind};
-ghost use Rattle.image_make.specs.Refusals.{make_refusal};
+ghost use Rattle.folder_plan.specs.Refusals.{make_refusal};
 ghost use Rattle.volume.specs.Holds.{memory};
 ghost use Rattle.volume.specs.Same.{IsSameVolume};
 ghost use Rattle.volume_make.specs.Making.{made_text};
@@ -19,7 +19,7 @@ ghost use Rattle.tool_parts.specs.Begins.{closed_memory};
 use crate::finishing::{finish, format_board};
 use folder_core::{Folder, FolderState};
 use geometry::Geometry;
-use image_make::{Refusal, refusal_of};
+use folder_plan::{Refusal, refusal_of};
 use nor_core::{Board, Failed, Nor, NorState};
 use table_model::Info;
 use tool_parts::{Buffers, Closing, Ending, conclude, mount_and_check, put, put_count};

@@ -14,14 +14,14 @@ use Rattle.folder_core.specs.Puts.{Kept}
 use Rattle.folder_core.specs.declared.state.FolderState.{Ghosts as FolderOf}
 use Rattle.volume.specs.declared.volume.Volume.{Volume}
 use Rattle.volume_run.specs.Ready.{IsReady}
-use Rattle.image_make.specs.Refusals.{accepted, make_refusal, index_sum, data_sum}
-use Rattle.image_make.specs.Tables.{numbered, folder_table}
+use Rattle.folder_plan.specs.Refusals.{accepted, make_refusal, index_sum, data_sum}
+use Rattle.folder_plan.specs.Tables.{numbered, folder_table}
 use Rattle.call_model.specs.Closed.{with_files}
-use Rattle.image_make.specs.Putting.{put_state}
-use Rattle.image_make.proofs.Tabling.{index_is, data_is}
-use Rattle.image_make.proofs.Naming.{accepted_is}
-use Rattle.image_make.proofs.Filling.{named_fine}
-use Rattle.image_make.proofs.Answering.{numbered_long}
+use Rattle.folder_plan.specs.Putting.{put_state}
+use Rattle.folder_plan.proofs.Tabling.{index_is, data_is}
+use Rattle.folder_plan.proofs.Naming.{accepted_is}
+use Rattle.folder_plan.proofs.Filling.{named_fine}
+use Rattle.folder_plan.proofs.Answering.{numbered_long}
 use Rattle.volume_make.specs.declared.put_err.PutErr.{PutErr}
 use Rattle.volume_make.specs.Making.{HasPut, HasBegun, IsMadeFrom, OnlyFailsFrom, PutsFrom, FailsFrom, WritesFrom, StopsWriting, BeginsFrom, StopsBeginning, DoneFrom, UndoneFrom, TellsFrom, StopsTelling}
 use Rattle.volume_make.proofs.Making.{put_kept, begun_kept, next_begun, unbegun, more_begun, unwritten, next_put, unclosed}

@@ -21,10 +21,10 @@ use Rattle.volume.specs.declared.volume.Volume.{Volume}
 use Rattle.volume_run.specs.Ready.{IsReady, IsAnsweredFrom, IsOpenedFrom, opened}
 use Rattle.volume_run.specs.Stops.{StopsFrom}
 use Rattle.volume_run.specs.declared.asking.Stop.{Stop}
-use Rattle.image_make.specs.Refusals.{make_refusal}
-use Rattle.image_make.specs.Putting.{put_state, begun_state, IsNew}
-use Rattle.image_make.proofs.Filling.{front_room, next_new}
-use Rattle.image_make.proofs.Answering.{longer, answer_begin, answer_more, answer_end}
+use Rattle.folder_plan.specs.Refusals.{make_refusal}
+use Rattle.folder_plan.specs.Putting.{put_state, begun_state, IsNew}
+use Rattle.folder_plan.proofs.Filling.{front_room, next_new}
+use Rattle.folder_plan.proofs.Answering.{longer, answer_begin, answer_more, answer_end}
 use Rattle.volume_make.specs.declared.put_err.PutErr.{PutErr}
 use Rattle.volume_make.specs.declared.put_err.PutErr.TheVariants.{Stopped}
 use Rattle.volume_make.specs.Making.{IsFault, HasPut, HasBegun, BeginsFrom, StopsBeginning, DoneFrom, UndoneFrom, TellsFrom, StopsTelling}

@@ -14,9 +14,9 @@ use Rattle.volume.specs.declared.volume.Volume.{Volume}
 use Rattle.volume_run.specs.Ready.{IsReady}
 use Rattle.volume_run.specs.declared.asking.Stop.TheVariants.{Fault}
 use Rattle.volume_run.specs.Stops.{IsApart as StopIsApart}
-use Rattle.image_make.specs.Refusals.{make_refusal, index_sum, data_sum}
+use Rattle.folder_plan.specs.Refusals.{make_refusal, index_sum, data_sum}
 use Rattle.call_model.specs.Closed.{with_files}
-use Rattle.image_make.specs.Putting.{put_state, begun_state, IsNew}
+use Rattle.folder_plan.specs.Putting.{put_state, begun_state, IsNew}
 use Rattle.volume_make.specs.declared.put_err.PutErr.{PutErr}
 use Rattle.volume_make.specs.declared.put_err.PutErr.TheVariants.{Folder, Stopped, Refused}
 

@@ -9,7 +9,7 @@ use crate::PutErr;
 use crate::performing::perform;
 use crate::pieces::put_pieces;
 use folder_core::{Folder, FolderState};
-use image_make::name_of;
+use folder_plan::name_of;
 use nor_core::{Nor, NorState};
 use table_model::{Call, Info};
 use volume::Volume;
@@ -35,7 +35,7 @@ fn open_new<N: Nor>(volume: &mut Volume<'_, N>, name: &[u8]) -> Result<u16, PutE
 }
 
 // Makes a file of file `i` of a folder, of that name and size.
-#[tactic(auto, using(volume_run::proofs::Moving::moved_then, image_make::proofs::Keeping::kept_then))]
+#[tactic(auto, using(volume_run::proofs::Moving::moved_then, folder_plan::proofs::Keeping::kept_then))]
 fn write_file<N: Nor, F: Folder>(
     volume: &mut Volume<'_, N>,
     folder: &mut F,
@@ -61,7 +61,7 @@ fn write_file<N: Nor, F: Folder>(
 }
 
 // Makes a file of file `i` of a folder.
-#[tactic(auto, using(volume_run::proofs::Moving::moved_then, image_make::proofs::Keeping::kept_then))]
+#[tactic(auto, using(volume_run::proofs::Moving::moved_then, folder_plan::proofs::Keeping::kept_then))]
 fn put_file<N: Nor, F: Folder>(
     volume: &mut Volume<'_, N>,
     folder: &mut F,
@@ -91,7 +91,7 @@ fn put_file<N: Nor, F: Folder>(
 }
 
 // Makes files of so many files of a folder, in its order.
-#[tactic(auto, using(volume_run::proofs::Moving::moved_then, image_make::proofs::Keeping::kept_then))]
+#[tactic(auto, using(volume_run::proofs::Moving::moved_then, folder_plan::proofs::Keeping::kept_then))]
 fn put_each<N: Nor, F: Folder>(
     volume: &mut Volume<'_, N>,
     folder: &mut F,
@@ -135,7 +135,7 @@ fn tell_info<N: Nor>(volume: &mut Volume<'_, N>) -> Result<Info, PutErr>
 /// Puts the files of a folder onto a checked volume that has none, numbered from 1 in the folder's order, through the volume's own calls, and
 /// answers how full it is then. The bytes go through the lent ones, a piece as long as these at a time. Where a fault ends it, the first files
 /// are there, and the next one may be there with a front of its bytes.
-#[tactic(auto, using(volume_run::proofs::Moving::moved_then, image_make::proofs::Keeping::kept_then))]
+#[tactic(auto, using(volume_run::proofs::Moving::moved_then, folder_plan::proofs::Keeping::kept_then))]
 pub fn put_files<N: Nor, F: Folder>(
     volume: &mut Volume<'_, N>,
     folder: &mut F,

@@ -56,7 +56,7 @@ fn piece_length(left: u64, most: usize) -> usize
 }
 
 /// Writes all bytes of file `i` of a folder through the descriptor of the new file, in pieces as long as the lent bytes.
-#[tactic(auto, using(volume_run::proofs::Moving::moved_then, image_make::proofs::Keeping::kept_then))]
+#[tactic(auto, using(volume_run::proofs::Moving::moved_then, folder_plan::proofs::Keeping::kept_then))]
 pub(crate) fn put_pieces<N: Nor, F: Folder>(
     volume: &mut Volume<'_, N>,
     fd: u16,

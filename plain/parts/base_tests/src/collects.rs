@@ -8,10 +8,10 @@ use liverymenhir::geometry::{Geometry, MagicKind};
 use rattle_host::alloc::{AllocError, Global};
 use rattle_host::process::Abort;
 use rattle_host::test::Fail;
-use spiffs::image_collect::{
+use spiffs::plain_collect::{
     are_had, chosen_block, is_fitting, is_stuck, is_swept, is_worth, score, scrub_victim,
 };
-use spiffs::image_plain::holds_volume;
+use spiffs::plain_image::holds_volume;
 
 // An erased block with its magic and this erase count.
 fn put_fresh(image: &mut Vec<u8>, g: &Geometry, block: u8, count: u8) {

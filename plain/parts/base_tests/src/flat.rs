@@ -7,7 +7,7 @@ use rattle_host::assert;
 use rattle_host::prelude::*;
 use rattle_host::process::Abort;
 use rattle_host::test::Fail;
-use spiffs::flat_plain::{Flat, Said};
+use spiffs::plain_table::{Flat, Said};
 
 // What a call is to answer: a file by its id, size, name and meta bytes.
 #[derive(Clone, Copy)]

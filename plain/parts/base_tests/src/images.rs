@@ -10,7 +10,7 @@ use rattle_host::prelude::*;
 use rattle_host::process::Abort;
 use rattle_host::test::Fail;
 use rattle_host::vec;
-use spiffs::image_plain::{
+use spiffs::plain_image::{
     Record, Room, damaged_of, free_blocks, holds_volume, is_same_live, is_sound, is_tidy,
     killed_of, meaning_of, mixed_blocks, room_of, spoiled_blocks, table_of,
 };

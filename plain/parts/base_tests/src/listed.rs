@@ -9,7 +9,7 @@ use rattle_host::prelude::*;
 use rattle_host::test::Fail;
 use rattle_host::{fs, process};
 use spiffs::host_edge::StdFolder;
-use spiffs::image_make::{Refusal, refusal_of};
+use spiffs::folder_plan::{Refusal, refusal_of};
 
 // A folder that only this process uses.
 fn path_for(rt: &HostRuntime, words: &str) -> Result<String, AllocError> {

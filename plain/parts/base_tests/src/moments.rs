@@ -8,7 +8,7 @@ use rattle_host::assert;
 use rattle_host::prelude::*;
 use rattle_host::process::Abort;
 use rattle_host::test::Fail;
-use spiffs::flat_plain::{PlainFile, PlainMoment, Said, are_same, cuts_file, is_refusal};
+use spiffs::plain_table::{PlainFile, PlainMoment, Said, are_same, cuts_file, is_refusal};
 
 // A volume without a file, with two descriptors.
 fn empty_volume(alloc: Global) -> Result<PlainMoment, Fail> {

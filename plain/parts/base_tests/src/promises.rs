@@ -7,8 +7,8 @@ use rattle_host::assert;
 use rattle_host::prelude::*;
 use rattle_host::process::Abort;
 use rattle_host::test::Fail;
-use spiffs::flat_plain::PlainFile;
-use spiffs::promise_plain::{Fault, Verdict, list_tables, rehearse};
+use spiffs::plain_table::PlainFile;
+use spiffs::plain_promise::{Fault, Verdict, list_tables, rehearse};
 
 // What a rehearsal is to tell: all is kept by so many tables, or the promise of a line is broken at a line by a step.
 #[derive(Clone, Copy, Debug, PartialEq, Eq)]

@@ -8,8 +8,8 @@ use rattle_host::assert;
 use rattle_host::prelude::*;
 use rattle_host::test::Fail;
 use rattle_host::vec;
-use spiffs::image_collect::{SharedBlocks, parting};
-use spiffs::image_plain::{holds_volume, is_tidy};
+use spiffs::plain_collect::{SharedBlocks, parting};
+use spiffs::plain_image::{holds_volume, is_tidy};
 
 // The header page of a file of `spans` data pages at a byte, with an empty index.
 fn put_header(image: &mut Vec<u8>, at: usize, spans: u8) {

@@ -1,7 +1,7 @@
 //! The numbers of a map, beside the data pages that a look at the whole chip finds.
 use liverymenhir::geometry::Geometry;
 use liverymenhir::volume::Volume;
-use spiffs::image_plain::{holds_volume, index_page, own, size_of};
+use spiffs::plain_image::{holds_volume, index_page, own, size_of};
 use spiffs::nor_memory::MemBoard;
 
 // The number of two bytes, the lower one first.

@@ -3,7 +3,7 @@
 use liverymenhir::geometry::{Geometry, MagicKind};
 use rattle_host::alloc::Global;
 use script_rows::script_bench::{Bench, Fault, Told};
-use spiffs::image_plain::table_of;
+use spiffs::plain_image::table_of;
 use std::collections::BTreeMap;
 use std::fmt::Write;
 
@@ -123,7 +123,7 @@ impl Trial {
 
     pub(crate) fn files(&self, image: &[u8]) -> Vec<File> {
         let records = table_of(Global, &self.bench.g, image).expect("memory");
-        let file = |record: &spiffs::image_plain::Record| File {
+        let file = |record: &spiffs::plain_image::Record| File {
             id: record.id,
             kind: record.kind,
             name: record.name.as_slice().to_vec(),

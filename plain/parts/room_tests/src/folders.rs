@@ -4,7 +4,7 @@ use liverymenhir::geometry::{GeoErr, Geometry, MagicKind};
 use rattle_host::alloc::Global;
 use spiffs::folder_core::MemFolder;
 use spiffs::folder_size::{Need, Shape, least_blocks};
-use spiffs::image_make::{Refusal, refusal_of};
+use spiffs::folder_plan::{Refusal, refusal_of};
 
 const SHAPE: Shape = Shape {
     page: 256,

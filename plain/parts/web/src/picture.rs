@@ -5,7 +5,7 @@ use crate::memory::{NO_MEMORY, filled};
 use crate::reading::{UNREAD, geometry_of};
 use liverymenhir::Geometry;
 use rattle_host::prelude::String;
-use spiffs::image_plain::{entry_of, is_live, page_of};
+use spiffs::plain_image::{entry_of, is_live, page_of};
 
 /// What a page is. The page of the browser has these numbers too.
 #[derive(Clone, Copy)]

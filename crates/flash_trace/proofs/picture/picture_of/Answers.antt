@@ -1,5 +1,5 @@
 use Rattle.std.proofs.Common.{◌∙◌, ap, map}
-use Rattle.image_plain.specs.Seen.{file}
+use Rattle.plain_image.specs.Seen.{file}
 use Rattle.flash_trace.proofs.Pictures.{picture_made}
 use Rattle.flash_trace.proofs.picture.picture_of.Goals as goal
 

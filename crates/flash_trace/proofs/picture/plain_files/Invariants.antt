@@ -1,7 +1,7 @@
 -- The files so far are copied.
 use Rattle.std.proofs.Common.{◌≡◌, map, take}
-use Rattle.image_plain.specs.Seen.{file as the_file}
-use Rattle.flat_plain.specs.Seen.{file as the_plain}
+use Rattle.plain_image.specs.Seen.{file as the_file}
+use Rattle.plain_table.specs.Seen.{file as the_plain}
 use Rattle.flash_trace.proofs.picture.plain_files.Given as goal
 
 abbrev pub invariant-loop-f : goal.invariant-loop-f

@@ -1,4 +1,4 @@
-use Rattle.flat_plain.specs.Moments.{moment_of}
+use Rattle.plain_table.specs.Moments.{moment_of}
 use Rattle.flash_trace.proofs.Testing.{among_at}
 use Rattle.flash_trace.proofs.stands.may_leave.Goals as goal
 

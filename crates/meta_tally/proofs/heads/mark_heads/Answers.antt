@@ -2,7 +2,7 @@ use Rattle.std.proofs.Common.{◌≡◌, ◌+◌, ◌<◌, ◌≤◌, ◌∙◌,
 use Rattle.std.specs.Prelude.{is_some}
 use Rattle.geometry.specs.Numbers.{page_count}
 use Rattle.image_model.specs.Live.{live_at}
-use Rattle.image_plain.proofs.Ranges.{count_none, count_all}
+use Rattle.plain_image.proofs.Ranges.{count_none, count_all}
 use Rattle.meta_tally.specs.Heads.{Seen, head_at, head_count}
 use Rattle.meta_tally.proofs.Seeing.{none_seen, seen_more, head_seen, marked_more, mark_is, counted_more}
 use Rattle.meta_tally.proofs.heads.mark_heads.Goals as goal

@@ -3,7 +3,7 @@ use Rattle.std.proofs.Common.{◌≡◌, ◌<◌, ℕ, slice_index}
 use Rattle.std.specs.Prelude.{is_some}
 use Rattle.geometry.specs.Numbers.{page_count}
 use Rattle.image_model.specs.Live.{live_at}
-use Rattle.image_plain.specs.Counted.{Counts}
+use Rattle.plain_image.specs.Counted.{Counts}
 use Rattle.meta_tally.specs.Heads.{Seen, head_at}
 use Rattle.meta_tally.specs.Names.{mark_at}
 use Rattle.meta_tally.proofs.heads.mark_heads.Given as goal

@@ -1,4 +1,4 @@
-use Rattle.image_make.proofs.Keeping.{kept_then}
+use Rattle.folder_plan.proofs.Keeping.{kept_then}
 use Rattle.volume_run.proofs.Moving.{moved_then}
 use Rattle.volume_make.specs.Making.{FailsFrom}
 use Rattle.volume_make.proofs.Composing.{passed, puts_then, fails_then}

@@ -1,5 +1,5 @@
 use Rattle.std.proofs.Common.{◌∙◌, sym}
-use Rattle.image_make.proofs.Keeping.{kept_then}
+use Rattle.folder_plan.proofs.Keeping.{kept_then}
 use Rattle.volume_make.specs.declared.put_err.PutErr.TheVariants.{Refused}
 use Rattle.volume_make.proofs.Composing.{on_ok, if_err, named_by, puts_kept, fails_kept, never_unnamed}
 use Rattle.volume_make.proofs.files.put_file.Goals as goal

@@ -1,6 +1,6 @@
 use Rattle.std.proofs.Common.{arith}
 use Rattle.std.proofs.lemmas.List.{length-take-le}
-use Rattle.image_make.proofs.Keeping.{kept_then}
+use Rattle.folder_plan.proofs.Keeping.{kept_then}
 use Rattle.volume_run.proofs.Moving.{moved_then}
 use Rattle.volume_make.specs.Making.{StopsWriting}
 use Rattle.volume_make.proofs.Composing.{passed, writes_more, stops_then_writing}

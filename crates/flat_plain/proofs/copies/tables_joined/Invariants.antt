@@ -1,7 +1,0 @@
--- The further tables so far stand behind the first ones.
-use Rattle.std.proofs.Common.{◌≡◌, ◌++◌, map, take}
-use Rattle.flat_plain.specs.Seen.{files_of}
-use Rattle.flat_plain.proofs.copies.tables_joined.Given as goal
-
-abbrev pub invariant-loop-table : goal.invariant-loop-table
-invariant-loop-table l = map files_of l.joined.items ≡ map files_of l.tables ++ map files_of (take l.table-index l.more)

@@ -1,7 +1,0 @@
--- The files before have ids below that one.
-use Rattle.std.proofs.Common.{ℕ, ◌<◌, get_or}
-use Rattle.flat_plain.specs.declared.file.PlainFile.{PlainFile}
-use Rattle.flat_plain.proofs.search.place_of.Given as goal
-
-abbrev pub invariant-loop-at : goal.invariant-loop-at
-invariant-loop-at l = (k : ℕ) (d : PlainFile) → k < l.at → (get_or l.files k d).id < l.id

@@ -1,7 +1,0 @@
--- As many as the turns so far.
-use Rattle.std.proofs.Common.{◌≡◌, replicate, map, None}
-use Rattle.flat_plain.specs.Seen.{held}
-use Rattle.flat_plain.proofs.slots.all_closed.Given as goal
-
-abbrev pub invariant-loop-i : goal.invariant-loop-i
-invariant-loop-i l = map held l.slots.items ≡ replicate l._i None

@@ -1,9 +1,0 @@
--- The parts so far, and those to come.
-use Rattle.std.proofs.Common.{ℕ, if◌then◌else◌}
-use Rattle.image_model.specs.Collect.{free_in}
-use Rattle.image_collect.specs.Sorts.{is_of}
-use Rattle.image_collect.specs.Summed.{Sums}
-use Rattle.image_collect.proofs.places.free_of.Given as goal
-
-abbrev pub invariant-loop-block : goal.invariant-loop-block
-invariant-loop-block l = Sums (λ (j : ℕ). if is_of l.g l.image l.kind j then free_in l.g l.image j else 0) l.total l.block l.block-end

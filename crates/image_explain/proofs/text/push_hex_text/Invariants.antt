@@ -1,8 +1,0 @@
--- The text so far, and what is to come.
-use Rattle.std.proofs.Common.{◌≡◌, ◌++◌, drop, string_bytes}
-use Rattle.std.specs.List.{flat_map}
-use Rattle.call_script.specs.Texts.{hex_pair}
-use Rattle.image_explain.proofs.text.push_hex_text.Given as goal
-
-abbrev pub invariant-loop-byte : goal.invariant-loop-byte
-invariant-loop-byte l = string_bytes l.text ++ flat_map hex_pair (drop l.byte-index l.bytes) ≡ string_bytes l.initial.text ++ flat_map hex_pair l.bytes

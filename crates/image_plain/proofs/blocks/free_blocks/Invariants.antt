@@ -1,8 +1,0 @@
--- Those so far, and those to come.
-use Rattle.std.proofs.Common.{ℕ}
-use Rattle.image_model.specs.Tidy.{is_free_block}
-use Rattle.image_plain.specs.Counted.{Counts}
-use Rattle.image_plain.proofs.blocks.free_blocks.Given as goal
-
-abbrev pub invariant-loop-block : goal.invariant-loop-block
-invariant-loop-block l = Counts (λ (j : ℕ). is_free_block l.g l.image j) l.count l.block l.block-end

@@ -1,6 +1,0 @@
--- The pages so far.
-use Rattle.image_plain.specs.Wanting.{AreWanted}
-use Rattle.image_plain.proofs.tidy.wanted_pages.Given as goal
-
-abbrev pub invariant-loop-p : goal.invariant-loop-p
-invariant-loop-p l = AreWanted l.g l.image l.p l.wanted.items

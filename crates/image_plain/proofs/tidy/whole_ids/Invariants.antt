@@ -1,6 +1,0 @@
--- The ids so far.
-use Rattle.image_plain.specs.Wanting.{AreWhole}
-use Rattle.image_plain.proofs.tidy.whole_ids.Given as goal
-
-abbrev pub invariant-loop-id : goal.invariant-loop-id
-invariant-loop-id l = AreWhole l.g l.image l.id l.whole.items

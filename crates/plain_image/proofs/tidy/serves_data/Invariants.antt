@@ -1,0 +1,14 @@
+-- The search from `span` on gives the answer.
+use Rattle.std.proofs.Common.{◌≡◌, ◌-◌, ℕ, ◌&&◌}
+use Rattle.std.specs.Prelude.{is_some}
+use Rattle.std.specs.List.{range_with_len, list_any}
+use Rattle.image_model.specs.Live.{live_at, own}
+use Rattle.image_model.specs.Files.{entry_number, data_of}
+use Rattle.image_model.specs.Tidy.{is_number}
+use Rattle.plain_image.proofs.tidy.serves_data.Given as goal
+
+abbrev pub invariant-loop-span : goal.invariant-loop-span
+invariant-loop-span l =
+    let pages = own (live_at l.g l.image) l.id in
+    let named = λ (j : ℕ). is_number (entry_number l.g pages l.head j) l.p && is_some (data_of (pages l.p) j) in
+    list_any named (range_with_len l.span (l.n - l.span)) ≡ list_any named (range_with_len 0 l.n)
