@@ -12,10 +12,10 @@ use crate::picture::Picture;
 use crate::spot::Place;
 use crate::text::counted_line;
 use crate::ways::{Ahead, begins_with};
-use plain_table::are_same;
 use geometry::Geometry;
 use plain_collect::{chosen_block, parting};
 use plain_image::{free_blocks, spoiled_blocks};
+use plain_table::are_same;
 use std::alloc::{AllocError, Global};
 
 // The line that ends a run for too few free blocks, with no block to clean.

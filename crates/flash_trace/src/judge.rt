@@ -14,10 +14,10 @@ use crate::going::{Going, go_on, is_good};
 use crate::picture::picture_of;
 use crate::place::first_place;
 use crate::verdict::Verdict;
-use plain_table::PlainMoment;
 use geometry::Geometry;
-use plain_image::damaged_of;
 use nor_core::MemErr;
+use plain_image::damaged_of;
+use plain_table::PlainMoment;
 use std::alloc::{AllocError, Global};
 
 // What stands before the first event.

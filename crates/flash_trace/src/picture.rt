@@ -9,9 +9,9 @@ ghost use Rattle.flash_trace.specs.Stands.{IsPicture, MeansSame};
 use crate::case::Case;
 use crate::changes::change_image;
 use crate::event::Event;
-use plain_table::PlainFile;
 use geometry::Geometry;
 use plain_image::{Record, has_magic, is_same_live, is_sound, meaning_of};
+use plain_table::PlainFile;
 use std::alloc::{AllocError, Global};
 
 /// An image with its table, and whether it is sound with respect to the first one.

@@ -10,9 +10,9 @@ use crate::case::Case;
 use crate::picture::Picture;
 use crate::spot::Place;
 use crate::ways::{Ahead, Way, Ways, begins_with};
-use plain_table::PlainFile;
 use geometry::Geometry;
 use plain_collect::{are_had, chosen_block};
+use plain_table::PlainFile;
 use std::alloc::{AllocError, Global};
 
 // Whether these bytes are a front of a line, and not all of it.

@@ -6,8 +6,8 @@ ghost use Rattle.folder_size.specs.Needs.{written_refusal, need_by, need_for, Is
 
 use crate::told::{Need, Shape};
 use folder_core::{Folder, FolderState};
-use geometry::{GeoErr, Geometry, MagicKind};
 use folder_plan::{Refusal, refusal_of};
+use geometry::{GeoErr, Geometry, MagicKind};
 use nor_core::Failed;
 
 /// The fewest blocks of a volume that can be written.

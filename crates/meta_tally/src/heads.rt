@@ -11,8 +11,8 @@ ghost use Rattle.meta_tally.specs.Names.{mark_by, IsMarked};
 use crate::clearing::clear_bytes;
 use crate::names::name_mark;
 use geometry::Geometry;
-use plain_image::{live_at, name_of, page_of};
 use page_layout::{INDEX_BIT, read_word};
+use plain_image::{live_at, name_of, page_of};
 
 // Whether a page is a header page, by its own bytes.
 fn is_header(page: &[u8]) -> bool

@@ -17,8 +17,8 @@ use crate::heads::mark_heads;
 use crate::names::{NUMBERS, name_mark, note_name};
 use crate::wholes::is_complete;
 use geometry::Geometry;
-use plain_image::{name_of, page_of};
 use page_layout::{INDEX_BIT, read_word};
+use plain_image::{name_of, page_of};
 
 /// Bytes that are lent for work.
 pub const WORK: usize = 0x8000 + NUMBERS;

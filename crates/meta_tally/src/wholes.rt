@@ -9,8 +9,8 @@ ghost use Rattle.image_model.specs.Files.{first_missing as the_first_missing};
 ghost use Rattle.meta_tally.specs.Wholes.{IsKnown};
 
 use geometry::Geometry;
-use plain_image::{own, size_of};
 use page_layout::{INDEX_BIT, data_pages, read_word};
+use plain_image::{own, size_of};
 
 // The index page of a span, once it was looked for.
 #[derive(Clone, Copy)]

@@ -10,8 +10,8 @@ ghost use Rattle.plain_explain.specs.Report.{worth_text, held_text, block_line, 
 
 use crate::text::{push_meta, push_name, yes_no};
 use geometry::Geometry;
-use plain_collect::{chosen_block, is_fitting, is_worth, parting, score};
 use image_model::Damage;
+use plain_collect::{chosen_block, is_fitting, is_worth, parting, score};
 use plain_image::{
     EntryKind, Record, count_entries, damaged_of, erase_count, free_blocks, has_magic,
     holds_volume, is_mixed, is_tidy, killed_of, mixed_blocks, room_of, spoiled_blocks, table_of,

@@ -12,8 +12,8 @@ ghost use Rattle.plain_promise.specs.Walks.{Lists};
 use crate::lines::next_line;
 use crate::sort::{Line, line_of};
 use crate::text::{put_settled, put_tables};
-use plain_table::{PlainFile, PlainMoment};
 use geometry::Geometry;
+use plain_table::{PlainFile, PlainMoment};
 use std::alloc::{AllocError, Global};
 use table_model::Call;
 

@@ -9,8 +9,8 @@ use crate::broken::Broken;
 use crate::ends::{Ends, find_ends};
 use crate::grammar::{Checked, Fault, check_lines};
 use crate::walk::{Turn, walk_lines};
-use plain_table::{PlainFile, PlainMoment};
 use geometry::Geometry;
+use plain_table::{PlainFile, PlainMoment};
 use std::alloc::{AllocError, Global};
 
 /// What a rehearsal tells of a script.

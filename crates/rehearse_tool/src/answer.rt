@@ -9,9 +9,9 @@ ghost use Rattle.rehearse_tool.specs.Outcomes.{IsJudged};
 ghost use Rattle.rehearse_tool.specs.Texts.{verdict_status, fault_line, verdict_line, shown_files, is_judged as the_judged, tables_text};
 ghost use Rattle.promise_model.specs.Verdicts.{AllKept, NotKept};
 
-use plain_table::PlainFile;
 use geometry::Geometry;
 use plain_promise::{Broken, Fault, Verdict, list_tables, put_files, rehearse};
+use plain_table::PlainFile;
 use std::alloc::{AllocError, Global};
 use tool_parts::{Closing, put, put_count};
 

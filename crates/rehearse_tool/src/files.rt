@@ -3,8 +3,8 @@ ghost use Rattle.std.specs.Prelude.{◌≡◌, map, IfOk};
 ghost use Rattle.plain_table.specs.Seen.{file};
 ghost use Rattle.plain_image.specs.Seen.{file as record_file};
 
-use plain_table::PlainFile;
 use plain_image::Record;
+use plain_table::PlainFile;
 use std::alloc::{AllocError, Global};
 
 // A file of the flat table with memory of its own.

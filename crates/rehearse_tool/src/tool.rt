@@ -19,9 +19,9 @@ use crate::files::files_of;
 use crate::input::{Stop, read_image, read_script};
 use crate::plan::{plan, wants_tables};
 use geometry::Geometry;
+use nor_core::{Board, Nor, NorState, Source};
 use plain_collect::parting;
 use plain_image::{spoiled_blocks, table_of};
-use nor_core::{Board, Nor, NorState, Source};
 use std::alloc::{AllocError, Global};
 use tool_parts::{Buffers, Ending, close_with, conclude, measure};
 

@@ -4,8 +4,8 @@ use crate::bench::words_of;
 use crate::tables::is_same;
 use crate::{Bench, Fault, Swept, Told, Trouble, are_same, listed};
 use copy_tool::copy_tool;
-use plain_image::Record;
 use nor_memory::CallKind;
+use plain_image::Record;
 
 /// The status where the target's device failed.
 const DEVICE_FAULT: u8 = 7;

@@ -1,9 +1,9 @@
 //! The flat table of a volume with files, and what it answers to lines of a script.
 use crate::{Bench, Trouble};
 use call_script::{parse_line, reply_text};
-use plain_table::{Flat, PlainFile, Said};
 use geometry::Geometry;
 use plain_image::Record;
+use plain_table::{Flat, PlainFile, Said};
 use table_model::{Call, Meta, Name, Reply, Stat};
 
 // Does a call of the flat table that is not to be refused.

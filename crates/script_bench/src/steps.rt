@@ -2,8 +2,8 @@
 use crate::flat_lines::flat_of;
 use crate::{Bench, Trouble, listed};
 use call_script::parse_line;
-use plain_table::{Flat, PlainFile, Said};
 use plain_image::Record;
+use plain_table::{Flat, PlainFile, Said};
 use std::alloc::Global;
 use table_model::Call;
 

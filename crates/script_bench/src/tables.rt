@@ -1,9 +1,9 @@
 //! What the plain programs and a reader tell of an image.
 use crate::{Bench, Trouble};
-use plain_table::{Flat, PlainFile, Said};
 use geometry::Geometry;
-use plain_image::{Record, free_blocks, holds_volume, is_tidy, table_of};
 use nor_memory::MemBoard;
+use plain_image::{Record, free_blocks, holds_volume, is_tidy, table_of};
+use plain_table::{Flat, PlainFile, Said};
 use std::alloc::Global;
 use table_model::Stat;
 use vol_mount::{Reader, ReaderLent, accept_reader};

@@ -1,8 +1,8 @@
 //! What `list` and `check` are to say of an image, by the plain programs.
 use crate::Trouble;
 use geometry::Geometry;
-use plain_collect::parting;
 use image_model::Damage;
+use plain_collect::parting;
 use plain_image::{damaged_of, free_blocks, holds_volume, killed_of, spoiled_blocks, table_of};
 use std::alloc::Global;
 

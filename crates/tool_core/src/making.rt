@@ -18,8 +18,8 @@ ghost use Rattle.tool_parts.specs.Begins.{closed_memory};
 
 use crate::finishing::{finish, format_board};
 use folder_core::{Folder, FolderState};
-use geometry::Geometry;
 use folder_plan::{Refusal, refusal_of};
+use geometry::Geometry;
 use nor_core::{Board, Failed, Nor, NorState};
 use table_model::Info;
 use tool_parts::{Buffers, Closing, Ending, conclude, mount_and_check, put, put_count};
