@@ -1,4 +1,5 @@
 use Rattle.std.proofs.Common.{◌≡◌, rules, Err, arith}
+use Rattle.std.proofs.lemmas.Result.{IfOk-from_err}
 use Rattle.flash_view.specs.declared.kinds.StepErr.TheVariants.{DeviceFault}
 use Rattle.flash_view.proofs.Stepped.{looked, look_faults, fault_as, passes, ends_as}
 use Rattle.block_gc.proofs.BatchPlaces.{carry_found, carry_place}
@@ -36,13 +37,13 @@ returns-clause-step g c = λ was most.
     (λ tells need done cs can. done cs (carry_place _ was _ a.block most a.batch cs can.so_far a.page a.span can c.in-Some.to (rw c.in-Some.is at (seen.looks.told tells can.so_far.carrying.tells))))
 
 pub returns-in_err-to-clause-few : goal.returns-in_err-to-clause-few
-returns-in_err-to-clause-few g c = tt
+returns-in_err-to-clause-few g c = IfOk-from_err _ _ c.from_residual.ensures.0
 
 pub returns-in_default-clause-few : goal.returns-in_default-clause-few
 returns-in_default-clause-few g c = tt
 
 pub returns-in_err-copy_to-clause-few : goal.returns-in_err-copy_to-clause-few
-returns-in_err-copy_to-clause-few g c = tt
+returns-in_err-copy_to-clause-few g c = IfOk-from_err _ _ c.from_residual-in_err-copy_to.ensures.0
 
 pub returns-clause-few : goal.returns-clause-few
 returns-clause-few g c = omega (arith, c.in_ok-to.ensures.looks.only.reads.writes, c.in_ok-copy_to.ensures.few)

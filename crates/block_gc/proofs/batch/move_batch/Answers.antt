@@ -1,4 +1,5 @@
 use Rattle.flash_view.proofs.Stepped.{looked, look_faults, after_look, view_image}
+use Rattle.std.proofs.lemmas.Result.{IfOk-from_err}
 use Rattle.block_gc.proofs.BatchEnds.{batch_found, found_is}
 use Rattle.block_gc.proofs.IndexOut.{turn_stays}
 use Rattle.block_gc.proofs.batch.move_batch.Goals as goal
@@ -21,7 +22,7 @@ returns-clause-step g c =
     (found_is _ _ _ _ _ _ c.in-Some.is (seen.told tells need.can.tidy need.is_data)) (rw seen.looks.same.geometry at c.index_span.ensures))
 
 pub returns-in_err-index-clause-few : goal.returns-in_err-index-clause-few
-returns-in_err-index-clause-few g c = λ tells can none. tt
+returns-in_err-index-clause-few g c = λ tells can none. IfOk-from_err _ _ c.from_residual.ensures.0
 
 pub returns-in_default-clause-few : goal.returns-in_default-clause-few
 returns-in_default-clause-few g c = λ tells can none. absurd (rw c.in_default.is at (c.in_ok-index.ensures.told tells can.can.tidy can.is_data))

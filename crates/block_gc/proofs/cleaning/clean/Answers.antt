@@ -1,4 +1,5 @@
 use Rattle.std.proofs.Common.{◌≡◌, rules, Ok, Err, arith}
+use Rattle.std.proofs.lemmas.Result.{IfOk-from_err}
 use Rattle.flash_view.specs.Steps.{Stepped, stopped, any_image}
 use Rattle.flash_view.proofs.Looking.{looks_then}
 use Rattle.flash_view.proofs.Stepped.{look_faults, after_look, passes, stepped_then, acted, fault_passes, done_as, view_image, image_after}
@@ -54,10 +55,10 @@ returns-clause-step g c =
     (rw (one.looks.only.same.geometry, one.looks.only.reads.bytes) at (two.looks.told (one.looks.only.reads.told tells))) can empty))
 
 pub returns-in_err-c-clause-few : goal.returns-in_err-c-clause-few
-returns-in_err-c-clause-few g c = λ tells can. tt
+returns-in_err-c-clause-few g c = λ tells can. IfOk-from_err _ _ c.from_residual.ensures.0
 
 pub returns-in_err-count-clause-few : goal.returns-in_err-count-clause-few
-returns-in_err-count-clause-few g c = λ tells can. tt
+returns-in_err-count-clause-few g c = λ tells can. IfOk-from_err _ _ c.from_residual-in_err-count.ensures.0
 
 pub returns-in_err-empty_block-clause-few : goal.returns-in_err-empty_block-clause-few
 returns-in_err-empty_block-clause-few g c =
@@ -65,7 +66,7 @@ returns-in_err-empty_block-clause-few g c =
     λ tells can. rw is tt
 
 pub returns-in_err-fresh_block-clause-few : goal.returns-in_err-fresh_block-clause-few
-returns-in_err-fresh_block-clause-few g c = λ tells can. tt
+returns-in_err-fresh_block-clause-few g c = λ tells can. IfOk-from_err _ _ c.from_residual-in_err-fresh_block.ensures.0
 
 pub returns-clause-few : goal.returns-clause-few
 returns-clause-few g c = λ tells can.

@@ -1,4 +1,5 @@
 use Rattle.std.proofs.Common.{arith}
+use Rattle.std.proofs.lemmas.Result.{IfOk-from_err}
 use Rattle.flash_view.proofs.Stepped.{looked, look_faults, after_look, view_image}
 use Rattle.block_gc.proofs.IndexOut.{turn_stays, block_low}
 use Rattle.block_gc.proofs.EntryTurns.{turn_passes, index_turn, batch_turn}
@@ -29,7 +30,7 @@ returns-in-Some-Data-clause-step g c =
     after_look seen.looks c.move_batch.ensures.step (λ tells can. batch_turn _ _ _ _ _ (rw (c.in-Some-Data.is, c.in-Some-Data.field-0-is) at (seen.told tells)) can)
 
 pub returns-in_err-live_kind-clause-few : goal.returns-in_err-live_kind-clause-few
-returns-in_err-live_kind-clause-few g c = λ tells can none. tt
+returns-in_err-live_kind-clause-few g c = λ tells can none. IfOk-from_err _ _ c.from_residual.ensures.0
 
 pub returns-in-None-clause-few : goal.returns-in-None-clause-few
 returns-in-None-clause-few g c = λ tells can none. let looks = c.in_ok-live_kind.ensures.looks in rw (looks.reads.bytes, looks.reads.writes) (omega arith)
