@@ -127,14 +127,11 @@ fn carry<N: Nor>(
     ensures step { (was : List ℕ) (most : ℕ) → Stepped stopped v.old v.new result (carrying was block most batch page span) }
     ensures few { OnOk result (N.device_writes v.new.nor.now ≤ N.device_writes v.old.nor.now + 4) }
 {
-    match free_page(v, Kind::Data, 0, Some(block)) {
-        Err(Failed) => Err(StepErr::DeviceFault),
-        Ok(None) => Err(StepErr::Damaged(no_place(page))),
-        Ok(Some(to)) => match copy_to(v, page, to, batch, span) {
-            Err(Failed) => Err(StepErr::DeviceFault),
-            Ok(()) => Ok(to),
-        },
-    }
+    let Some(to) = free_page(v, Kind::Data, 0, Some(block))? else {
+        return Err(StepErr::Damaged(no_place(page)));
+    };
+    copy_to(v, page, to, batch, span)?;
+    Ok(to)
 }
 
 // The span of a page, where it is a live data page of a batch.
@@ -190,14 +187,11 @@ fn carry_turn<N: Nor>(
     if run.count >= most {
         return Ok(run);
     }
-    match span_in(v, page, batch) {
-        Err(Failed) => Err(StepErr::DeviceFault),
-        Ok(None) => Ok(run),
-        Ok(Some(span)) => {
-            let to = carry(v, page, span, block, batch)?;
-            Ok(with_one(run, page, to))
-        }
-    }
+    let Some(span) = span_in(v, page, batch)? else {
+        return Ok(run);
+    };
+    let to = carry(v, page, span, block, batch)?;
+    Ok(with_one(run, page, to))
 }
 
 // The page behind a block.
@@ -408,14 +402,10 @@ fn rename<N: Nor>(
     ensures step { (was : List ℕ) (most : ℕ) → Stepped stopped v.old v.new result (renaming was block most batch first run) }
     ensures few { N.device_writes v.new.nor.now ≤ N.device_writes v.old.nor.now + 6 }
 {
-    match free_page(v, Kind::Index, 0, Some(block)) {
-        Err(Failed) => Err(StepErr::DeviceFault),
-        Ok(None) => Err(StepErr::Damaged(no_place(first))),
-        Ok(Some(to)) => match rename_to(v, to, first, block, batch, run) {
-            Err(Failed) => Err(StepErr::DeviceFault),
-            Ok(()) => Ok(()),
-        },
-    }
+    let Some(to) = free_page(v, Kind::Index, 0, Some(block))? else {
+        return Err(StepErr::Damaged(no_place(first)));
+    };
+    Ok(rename_to(v, to, first, block, batch, run)?)
 }
 
 // The turn of a page whose copy was put, where `left` such pages are to be killed still: it is killed. How many are left then.
@@ -429,14 +419,11 @@ fn drop_turn<N: Nor>(v: &mut View<'_, N>, page: u16, batch: Batch, left: u32) ->
     if left == 0 {
         return Ok(left);
     }
-    match span_in(v, page, batch) {
-        Err(Failed) => Err(Failed),
-        Ok(None) => Ok(left),
-        Ok(Some(_span)) => {
-            kill(v, page)?;
-            Ok(left - 1)
-        }
-    }
+    let Some(_span) = span_in(v, page, batch)? else {
+        return Ok(left);
+    };
+    kill(v, page)?;
+    Ok(left - 1)
 }
 
 // Kills the pages whose copies were put, the last one first.
@@ -477,10 +464,7 @@ fn end_batch<N: Nor>(
     ensures few { N.device_writes v.new.nor.now ≤ N.device_writes v.old.nor.now + 6 + 2 * run.count }
 {
     rename(v, first, block, batch, run)?;
-    match drop_all(v, first, block, batch, run) {
-        Err(Failed) => Err(StepErr::DeviceFault),
-        Ok(()) => Ok(()),
-    }
+    Ok(drop_all(v, first, block, batch, run)?)
 }
 
 // Moves the batch that a page begins out of the block.
@@ -522,16 +506,13 @@ pub(crate) fn move_batch<N: Nor>(
         NoneBefore v.old.geometry (N.bytes v.old.nor.now) block page → OnOk result
         (SixEach v.old.geometry block most (N.bytes v.old.nor.now) (N.bytes v.new.nor.now) (N.device_writes v.old.nor.now) (N.device_writes v.new.nor.now)) }
 {
-    match index_of(v, page) {
-        Err(Failed) => Err(StepErr::DeviceFault),
-        Ok(None) => Ok(()),
-        Ok(Some((index, tag))) => {
-            let batch = Batch {
-                index,
-                id: tag.id,
-                span: index_span(&v.geometry, tag.span),
-            };
-            move_from(v, page, block, batch, most)
-        }
-    }
+    let Some((index, tag)) = index_of(v, page)? else {
+        return Ok(());
+    };
+    let batch = Batch {
+        index,
+        id: tag.id,
+        span: index_span(&v.geometry, tag.span),
+    };
+    move_from(v, page, block, batch, most)
 }

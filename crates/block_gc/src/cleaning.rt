@@ -7,7 +7,7 @@ ghost use Rattle.block_gc.specs.Programs.{moved_in};
 use crate::emptying::empty_block;
 use flash_view::{BlockCounts, StepErr, View};
 use free_search::{counts, next_count};
-use nor_core::{Failed, Nor, NorState};
+use nor_core::{Nor, NorState};
 use page_put::fresh_block;
 
 // The longest batch of data pages that is moved out of a block with these counts: as many as its deleted and free entries, or
@@ -28,15 +28,8 @@ pub fn clean<N: Nor>(v: &mut View<'_, N>, block: u16) -> Result<(), StepErr>
     ensures few { N.tells v.old.nor.now → CanCleanBlock v.old.geometry (N.bytes v.old.nor.now) block → OnOk result (N.device_writes v.new.nor.now
         ≤ N.device_writes v.old.nor.now + 6 * moved_in v.old.geometry (N.bytes v.old.nor.now) block + v.old.geometry.block / v.old.geometry.phys + 2) }
 {
-    let Ok(c) = counts(v, block) else {
-        return Err(StepErr::DeviceFault);
-    };
-    let Ok(count) = next_count(v) else {
-        return Err(StepErr::DeviceFault);
-    };
+    let c = counts(v, block)?;
+    let count = next_count(v)?;
     empty_block(v, block, longest_batch(&c))?;
-    match fresh_block(v, block, count) {
-        Err(Failed) => Err(StepErr::DeviceFault),
-        Ok(()) => Ok(()),
-    }
+    Ok(fresh_block(v, block, count)?)
 }

@@ -60,14 +60,10 @@ fn move_index_out<N: Nor>(v: &mut View<'_, N>, page: u16, block: u16) -> Result<
     ensures step { Stepped stopped v.old v.new result (moving_index block page) }
     ensures few { N.device_writes v.new.nor.now ≤ N.device_writes v.old.nor.now + 6 }
 {
-    match free_page(v, Kind::Index, 0, Some(block)) {
-        Err(Failed) => Err(StepErr::DeviceFault),
-        Ok(None) => Err(StepErr::Damaged(no_place(page))),
-        Ok(Some(to)) => match move_index(v, page, to) {
-            Err(Failed) => Err(StepErr::DeviceFault),
-            Ok(()) => Ok(()),
-        },
-    }
+    let Some(to) = free_page(v, Kind::Index, 0, Some(block))? else {
+        return Err(StepErr::Damaged(no_place(page)));
+    };
+    Ok(move_index(v, page, to)?)
 }
 
 // The turn of an entry of a block: where its page is live it is moved out of the block, a data page with its batch.
@@ -80,11 +76,10 @@ fn empty_entry<N: Nor>(v: &mut View<'_, N>, page: u16, block: u16, most: u32) ->
         OnOk result
         (SixEach v.old.geometry block most (N.bytes v.old.nor.now) (N.bytes v.new.nor.now) (N.device_writes v.old.nor.now) (N.device_writes v.new.nor.now)) }
 {
-    match live_kind(v, page) {
-        Err(Failed) => Err(StepErr::DeviceFault),
-        Ok(None) => Ok(()),
-        Ok(Some(Kind::Index)) => move_index_out(v, page, block),
-        Ok(Some(Kind::Data)) => move_batch(v, page, block, most),
+    match live_kind(v, page)? {
+        None => Ok(()),
+        Some(Kind::Index) => move_index_out(v, page, block),
+        Some(Kind::Data) => move_batch(v, page, block, most),
     }
 }
 

@@ -51,14 +51,11 @@ fn is_met<N: Nor>(v: &mut View<'_, N>, goal: Goal) -> Result<bool, Failed>
 fn clean_chosen<N: Nor>(v: &mut View<'_, N>) -> Result<bool, StepErr>
     ensures { Stepped stopped v.old v.new result cleaning_chosen }
 {
-    match choose(v) {
-        Err(Failed) => Err(StepErr::DeviceFault),
-        Ok(None) => Ok(false),
-        Ok(Some(block)) => {
-            clean(v, block)?;
-            Ok(true)
-        }
-    }
+    let Some(block) = choose(v)? else {
+        return Ok(false);
+    };
+    clean(v, block)?;
+    Ok(true)
 }
 
 // A turn of collection: a block more was cleaned, or whether the goal is met where collection stops.
@@ -67,14 +64,13 @@ fn collect_turn<N: Nor>(v: &mut View<'_, N>, goal: Goal) -> Result<Option<bool>,
     ensures idle { N.tells v.old.nor.now → IsTidy v.old.geometry (N.bytes v.old.nor.now) → IsMet v.old.geometry (N.bytes v.old.nor.now) goal →
         OnlyReads N.NorState v.old.nor.now v.new.nor.now }
 {
-    match is_met(v, goal) {
-        Err(Failed) => Err(StepErr::DeviceFault),
-        Ok(true) => Ok(Some(true)),
-        Ok(false) => match clean_chosen(v) {
-            Err(why) => Err(why),
-            Ok(true) => Ok(None),
-            Ok(false) => Ok(Some(false)),
-        },
+    if is_met(v, goal)? {
+        return Ok(Some(true));
+    }
+    if clean_chosen(v)? {
+        Ok(None)
+    } else {
+        Ok(Some(false))
     }
 }
 
@@ -130,10 +126,7 @@ fn pack<N: Nor>(v: &mut View<'_, N>) -> Result<bool, StepErr>
     ensures { Stepped stopped v.old v.new result packing }
 {
     collect(v, Goal::Packed)?;
-    match is_stuck(v) {
-        Err(Failed) => Err(StepErr::DeviceFault),
-        Ok(stuck) => Ok(stuck),
-    }
+    Ok(is_stuck(v)?)
 }
 
 /// Cleans blocks until none is worth cleaning. Tight exactly where collection is stuck before that. A cut leaves the table

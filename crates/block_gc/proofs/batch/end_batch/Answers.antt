@@ -1,5 +1,5 @@
 use Rattle.std.proofs.Common.{◌≡◌, [], rules, Err, arith}
-use Rattle.flash_view.proofs.Stepped.{passes, stepped_then, fault_as, done_as}
+use Rattle.flash_view.proofs.Stepped.{passes, stepped_then, fault_passes, done_as}
 use Rattle.block_gc.proofs.BatchEnds.{ending_begins, ending_then}
 use Rattle.block_gc.proofs.batch.end_batch.Goals as goal
 
@@ -9,17 +9,18 @@ returns-in_err-rename-clause-step g c = λ was most.
     let is : c.from_residual.result ≡ Err c.in_err-rename.field-0.0 = search rules in
     passes (c.in_err-rename.ensures.step was most) is (λ tells need. ending_begins _ was _ a.block most a.batch a.first a.run need)
 
-pub returns-in-Err-clause-step : goal.returns-in-Err-clause-step
-returns-in-Err-clause-step g c = λ was most.
+pub returns-in_err-drop_all-clause-step : goal.returns-in_err-drop_all-clause-step
+returns-in_err-drop_all-clause-step g c = λ was most.
     let a = c.args in
-    fault_as (stepped_then (c.in_ok-rename.ensures.step was most) (c.in-Err.ensures.step was most)
+    fault_passes (stepped_then (c.in_ok-rename.ensures.step was most) (c.in_err-drop_all.ensures.step was most)
     (λ tells need. ending_begins _ was _ a.block most a.batch a.first a.run need)
     (λ tells need drops. ending_then _ was _ _ a.block most a.batch a.first a.run need drops))
+    c.from_residual-in_err-drop_all.ensures.0 c.from_residual-in_err-drop_all.ensures.1
 
-pub returns-in-Ok-clause-step : goal.returns-in-Ok-clause-step
-returns-in-Ok-clause-step g c = λ was most.
+pub returns-clause-step : goal.returns-clause-step
+returns-clause-step g c = λ was most.
     let a = c.args in
-    done_as (stepped_then (c.in_ok-rename.ensures.step was most) (c.in-Ok.ensures.step was most)
+    done_as (stepped_then (c.in_ok-rename.ensures.step was most) (c.in_ok-drop_all.ensures.step was most)
     (λ tells need. ending_begins _ was _ a.block most a.batch a.first a.run need)
     (λ tells need drops. ending_then _ was _ _ a.block most a.batch a.first a.run need drops))
 
@@ -35,8 +36,8 @@ drop_all-requires-clause-end g c = rw (c.in_ok-rename.ensures.step [] 0).framed.
 pub returns-in_err-rename-clause-few : goal.returns-in_err-rename-clause-few
 returns-in_err-rename-clause-few g c = omega (arith, c.in_err-rename.ensures.few)
 
-pub returns-in-Err-clause-few : goal.returns-in-Err-clause-few
-returns-in-Err-clause-few g c = omega (arith, c.in_ok-rename.ensures.few, c.in-Err.ensures.few)
+pub returns-in_err-drop_all-clause-few : goal.returns-in_err-drop_all-clause-few
+returns-in_err-drop_all-clause-few g c = omega (arith, c.in_ok-rename.ensures.few, c.in_err-drop_all.ensures.few)
 
-pub returns-in-Ok-clause-few : goal.returns-in-Ok-clause-few
-returns-in-Ok-clause-few g c = omega (arith, c.in_ok-rename.ensures.few, c.in-Ok.ensures.few)
+pub returns-clause-few : goal.returns-clause-few
+returns-clause-few g c = omega (arith, c.in_ok-rename.ensures.few, c.in_ok-drop_all.ensures.few)

@@ -1,48 +1,49 @@
-use Rattle.std.proofs.Common.{refl, arith}
-use Rattle.flash_view.proofs.Stepped.{looked, after_look, fault_as, done_as}
+use Rattle.std.proofs.Common.{arith}
+use Rattle.flash_view.proofs.Stepped.{looked, look_faults, after_look, fault_passes, done_as}
 use Rattle.block_gc.proofs.BatchPlaces.{rename_found, rename_place}
 use Rattle.block_gc.proofs.BatchCalls.{carry_stays}
 use Rattle.block_gc.proofs.BatchEnds.{rename_on}
 use Rattle.block_gc.proofs.batch.rename.Goals as goal
 
-pub returns-in-Err-clause-step : goal.returns-in-Err-clause-step
-returns-in-Err-clause-step g c = λ was most. let seen = c.in-Err.ensures in looked seen.looks.only (λ e. seen.looks.cause) tt (λ tells need. (carry_stays _ was _ c.args.block most c.args.batch need.0 need.1.all.so_far, refl))
+pub returns-in_err-to-clause-step : goal.returns-in_err-to-clause-step
+returns-in_err-to-clause-step g c = λ was most. let seen = c.in_err-to.ensures in look_faults seen.looks.only seen.looks.cause c.from_residual.ensures.0 c.from_residual.ensures.1 (λ tells need. carry_stays _ was _ c.args.block most c.args.batch need.0 need.1.all.so_far)
 
-pub returns-in-Ok-None-clause-step : goal.returns-in-Ok-None-clause-step
-returns-in-Ok-None-clause-step g c = λ was most.
-    let seen = c.in-Ok-None.ensures in
+pub returns-in_default-clause-step : goal.returns-in_default-clause-step
+returns-in_default-clause-step g c = λ was most.
+    let seen = c.in_ok-to.ensures in
     let a = c.args in
     looked seen.looks.only (λ e. absurd (cc)) c.no_place.ensures (λ tells need. (
       carry_stays _ was _ a.block most a.batch need.0 need.1.all.so_far,
-      absurd (rename_found _ was _ a.block most a.batch need.0 need.1.all.so_far a.first need.1.all (rw c.in-Ok-None.field-0-is at (seen.looks.told tells need.1.all.so_far.carrying.tells))),
+      absurd (rename_found _ was _ a.block most a.batch need.0 need.1.all.so_far a.first need.1.all (rw c.in_default.is at (seen.looks.told tells need.1.all.so_far.carrying.tells))),
     ))
 
-pub returns-in-Err-rename_to-clause-step : goal.returns-in-Err-rename_to-clause-step
-returns-in-Err-rename_to-clause-step g c = λ was most.
-    let seen = c.in-Ok-Some.ensures in
+pub returns-in_err-rename_to-clause-step : goal.returns-in_err-rename_to-clause-step
+returns-in_err-rename_to-clause-step g c = λ was most.
+    let seen = c.in_ok-to.ensures in
     let a = c.args in
-    fault_as
-    (after_look seen.looks.only (c.in-Err-rename_to.ensures.step was most)
-    (λ tells need. rename_on _ was _ a.block most a.batch a.first c.in-Ok-Some.to a.run
-    (λ cs ends. rename_place _ was _ a.block most a.batch cs ends.all.so_far a.first ends.all c.in-Ok-Some.to (rw c.in-Ok-Some.field-0-is at (seen.looks.told tells ends.all.so_far.carrying.tells))) need))
+    fault_passes
+    (after_look seen.looks.only (c.in_err-rename_to.ensures.step was most)
+    (λ tells need. rename_on _ was _ a.block most a.batch a.first c.in-Some.to a.run
+    (λ cs ends. rename_place _ was _ a.block most a.batch cs ends.all.so_far a.first ends.all c.in-Some.to (rw c.in-Some.is at (seen.looks.told tells ends.all.so_far.carrying.tells))) need))
+    c.from_residual-in_err-rename_to.ensures.0 c.from_residual-in_err-rename_to.ensures.1
 
-pub returns-in-Ok-clause-step : goal.returns-in-Ok-clause-step
-returns-in-Ok-clause-step g c = λ was most.
-    let seen = c.in-Ok-Some.ensures in
+pub returns-clause-step : goal.returns-clause-step
+returns-clause-step g c = λ was most.
+    let seen = c.in_ok-to.ensures in
     let a = c.args in
     done_as
-    (after_look seen.looks.only (c.in-Ok.ensures.step was most)
-    (λ tells need. rename_on _ was _ a.block most a.batch a.first c.in-Ok-Some.to a.run
-    (λ cs ends. rename_place _ was _ a.block most a.batch cs ends.all.so_far a.first ends.all c.in-Ok-Some.to (rw c.in-Ok-Some.field-0-is at (seen.looks.told tells ends.all.so_far.carrying.tells))) need))
+    (after_look seen.looks.only (c.in_ok-rename_to.ensures.step was most)
+    (λ tells need. rename_on _ was _ a.block most a.batch a.first c.in-Some.to a.run
+    (λ cs ends. rename_place _ was _ a.block most a.batch cs ends.all.so_far a.first ends.all c.in-Some.to (rw c.in-Some.is at (seen.looks.told tells ends.all.so_far.carrying.tells))) need))
 
-pub returns-in-Err-clause-few : goal.returns-in-Err-clause-few
-returns-in-Err-clause-few g c = omega (arith, c.in-Err.ensures.looks.only.reads.writes)
+pub returns-in_err-to-clause-few : goal.returns-in_err-to-clause-few
+returns-in_err-to-clause-few g c = omega (arith, c.in_err-to.ensures.looks.only.reads.writes)
 
-pub returns-in-Ok-None-clause-few : goal.returns-in-Ok-None-clause-few
-returns-in-Ok-None-clause-few g c = omega (arith, c.in-Ok-None.ensures.looks.only.reads.writes)
+pub returns-in_default-clause-few : goal.returns-in_default-clause-few
+returns-in_default-clause-few g c = omega (arith, c.in_ok-to.ensures.looks.only.reads.writes)
 
-pub returns-in-Err-rename_to-clause-few : goal.returns-in-Err-rename_to-clause-few
-returns-in-Err-rename_to-clause-few g c = omega (arith, c.in-Ok-Some.ensures.looks.only.reads.writes, c.in-Err-rename_to.ensures.few)
+pub returns-in_err-rename_to-clause-few : goal.returns-in_err-rename_to-clause-few
+returns-in_err-rename_to-clause-few g c = omega (arith, c.in_ok-to.ensures.looks.only.reads.writes, c.in_err-rename_to.ensures.few)
 
-pub returns-in-Ok-clause-few : goal.returns-in-Ok-clause-few
-returns-in-Ok-clause-few g c = omega (arith, c.in-Ok-Some.ensures.looks.only.reads.writes, c.in-Ok.ensures.few)
+pub returns-clause-few : goal.returns-clause-few
+returns-clause-few g c = omega (arith, c.in_ok-to.ensures.looks.only.reads.writes, c.in_ok-rename_to.ensures.few)
