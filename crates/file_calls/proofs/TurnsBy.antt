@@ -13,7 +13,8 @@ use Rattle.image_model.specs.Collect.{are_had, blocks_for, free_where, takes_ind
 use Rattle.image_model.specs.Tidy.{free_blocks}
 use Rattle.image_laws.proofs.Serving.{ceil-mono}
 use Rattle.room_laws.proofs.Tallies.{entries_pos}
-use Rattle.block_gc.specs.RoomMade.{NoneIs, IsReady}
+use Rattle.block_gc.specs.RoomMade.{IsReady}
+use Rattle.block_gc.proofs.Cleanings.{none_more}
 use Rattle.flash_view.specs.declared.view.View.{View}
 use Rattle.flash_view.specs.Same.{OnlyLooks}
 use Rattle.flash_view.specs.Steps.{Step, Errors, Stepped, Begins, Finishes}
@@ -36,11 +37,6 @@ had_less g image i p j q less fewer had =
 
 ready_less : (g : Geometry) (image : List ℕ) (i p j q : ℕ) → i ≤ j → p ≤ q → IsReady g image j q → IsReady g image i p
 ready_less g image i p j q less fewer ready = record { had = had_less g image i p j q less fewer ready.had; reserve = ready.reserve }
-
-none_less : (P Q : List ℕ → Type 0) → ((image : List ℕ) → P image → Q image) → (images : List (List ℕ)) → NoneIs Q images → NoneIs P images
-unfolding NoneIs
-none_less P Q on [] none = tt
-none_less P Q on (image ∷ images) none = (λ is. none.0 (on image is), none_less P Q on images none.1)
 
 -- the index pages of a call that is no write are few
 pub index_few : (ask : Ask) → index_taken ask ≤ 2
@@ -69,7 +65,7 @@ module _ {D : Type 0} {nor : NorOf D} {g : Geometry} where
     idle = λ ready. call.idle (ready_less g (nor.bytes old) i p 2 1 less fewer ready);
     needed = λ whole.
         let w = call.needed whole in
-        record { swept = w.swept; needed = none_less (λ image. IsReady g image 2 1) (λ image. IsReady g image i p) (λ image ready. ready_less g image i p 2 1 less fewer ready) w.swept.through w.needed };
+        record { swept = w.swept; needed = none_more (λ image. IsReady g image i p) (λ image. IsReady g image 2 1) w.swept.through (λ image ready. ready_less g image i p 2 1 less fewer ready) w.needed };
     rest = call.rest;
   }
 
@@ -168,7 +164,15 @@ module _ {N : Type 0} {nor : NorOf N} where
   pub turned_passes : {S T E : Type 0} {errors : Errors E} {ready other : Geometry → List ℕ → Type 0} {parts more : ℕ} {old new : View N nor} {e : E} {r : Result T E} {first : Step S} {whole : Step T} → Turned errors ready parts old new (Err e) first → r ≡ Err e →
       (nor.tells old.nor.now → whole.needs old.geometry (nor.bytes old.nor.now) → Begins old.geometry (nor.bytes old.nor.now) first whole) →
       (nor.tells old.nor.now → whole.needs old.geometry (nor.bytes old.nor.now) → (n : ℕ) → IsFew (ready old.geometry (nor.bytes old.nor.now)) parts n → IsFew (other old.geometry (nor.bytes old.nor.now)) more n) → Turned errors other more old new r whole
-  turned_passes {T} {E} {r = r} call is begins few = turned_as call (passes call.steps is begins) (λ tells need. (begins tells need).needs) few (λ e. subst (λ (x : Result T E). IsErr x) (sym is) refl)
+  turned_passes {T = T} {E = E} call is begins few = turned_as call (passes call.steps is begins) (λ tells need. (begins tells need).needs) few (λ e. subst (λ (x : Result T E). IsErr x) (sym is) refl)
+
+  -- for the same number of parts
+  pub turned_so : {T E : Type 0} {errors : Errors E} {ready : Geometry → List ℕ → Type 0} {parts more : ℕ} {old new : View N nor} {r : Result T E} {step : Step T} → parts ≡ more → Turned errors ready parts old new r step → Turned errors ready more old new r step
+  turned_so {errors = errors} {ready = ready} {old = old} {new = new} {r = r} {step = step} e call = subst (λ (k : ℕ). Turned errors ready k old new r step) e call
+
+  -- a step that nothing allows
+  pub turned_never : {T E : Type 0} {errors : Errors E} {ready : Geometry → List ℕ → Type 0} {parts : ℕ} {old new : View N nor} {r : Result T E} {step : Step T} → Stepped errors old new r step → (nor.tells old.nor.now → step.needs old.geometry (nor.bytes old.nor.now) → ⊥) → Turned errors ready parts old new r step
+  turned_never call never = record { steps = call; cleans = λ tells need. absurd (never tells need) }
 
   -- after a look
   pub turned_after : {T E : Type 0} {errors : Errors E} {ready : Geometry → List ℕ → Type 0} {parts : ℕ} {old mid new : View N nor} {r : Result T E} {step : Step T} → OnlyLooks old mid → Turned errors ready parts mid new r step → Turned errors ready parts old new r step
