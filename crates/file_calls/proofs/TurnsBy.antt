@@ -69,72 +69,74 @@ module _ {D : Type 0} {nor : NorOf D} {g : Geometry} where
     rest = call.rest;
   }
 
+module _ {D : Type 0} (nor : NorOf D) (g : Geometry) where
   -- turns that are broken off where others are
-  along_as : {old new : D} {P Q : Type 0} (turns : List D) → (P → Q) → TurnsAlong nor g old new P turns → TurnsAlong nor g old new Q turns
+  along_as : (old new : D) (P Q : Type 0) (turns : List D) → (P → Q) → TurnsAlong nor g old new P turns → TurnsAlong nor g old new Q turns
   unfolding TurnsAlong
-  along_as [] on along = along
-  along_as (from ∷ more) on along = (along.0, cleans_as on along.1)
+  along_as old new P Q [] on along = along
+  along_as old new P Q (from ∷ more) on along = (along.0, cleans_as on along.1)
 
   -- before reads
-  along_read : {old mid new : D} {P : Type 0} (turns : List D) → TurnsAlong nor g old mid P turns → OnlyReads nor mid new → TurnsAlong nor g old new P turns
+  along_read : (old mid new : D) (P : Type 0) (turns : List D) → TurnsAlong nor g old mid P turns → OnlyReads nor mid new → TurnsAlong nor g old new P turns
   unfolding TurnsAlong
-  along_read [] along reads = reads_then along reads
-  along_read (from ∷ more) along reads = (along.0, cleans_read along.1 reads)
+  along_read old mid new P [] along reads = reads_then along reads
+  along_read old mid new P (from ∷ more) along reads = (along.0, cleans_read along.1 reads)
 
   -- after reads
-  along_after : {old mid new : D} {P : Type 0} (turns : List D) → OnlyReads nor old mid → TurnsAlong nor g mid new P turns → TurnsAlong nor g old new P turns
+  along_after : (old mid new : D) (P : Type 0) (turns : List D) → OnlyReads nor old mid → TurnsAlong nor g mid new P turns → TurnsAlong nor g old new P turns
   unfolding TurnsAlong
-  along_after [] reads along = reads_then reads along
-  along_after (from ∷ more) reads along = (along_after more reads along.0, along.1)
+  along_after old mid new P [] reads along = reads_then reads along
+  along_after old mid new P (from ∷ more) reads along = (along_after old mid from ⊥ more reads along.0, along.1)
 
   -- after turns that were not broken off
-  along_then : {old mid new : D} {P : Type 0} (turns before : List D) → TurnsAlong nor g old mid ⊥ before → TurnsAlong nor g mid new P turns → TurnsAlong nor g old new P (turns ++ before)
+  along_then : (old mid new : D) (P : Type 0) (turns before : List D) → TurnsAlong nor g old mid ⊥ before → TurnsAlong nor g mid new P turns → TurnsAlong nor g old new P (turns ++ before)
   unfolding TurnsAlong
-  along_then [] before first along = along_read before (along_as before (λ e. absurd e) first) along
-  along_then (from ∷ more) before first along = (along_then more before first along.0, along.1)
+  along_then old mid new P [] before first along = along_read old mid new P before (along_as old mid ⊥ P before (λ e. absurd e) first) along
+  along_then old mid new P (from ∷ more) before first along = (along_then old mid from ⊥ more before first along.0, along.1)
 
   -- one turn
-  along_once : {i p : ℕ} {old new : D} {P : Type 0} → i ≤ 2 → p ≤ 1 → CleansFor nor g i p old new P → TurnsAlong nor g old new P (old ∷ [])
+  along_once : (old new : D) (P : Type 0) → CleansFor nor g 2 1 old new P → TurnsAlong nor g old new P (old ∷ [])
   unfolding TurnsAlong
-  along_once {old = old} less fewer call = (reads_none old, cleans_more less fewer call)
+  along_once old new P call = (reads_none old, call)
 
   -- none
-  along_none : {old new : D} {P : Type 0} → OnlyReads nor old new → TurnsAlong nor g old new P []
+  along_none : (old new : D) (P : Type 0) → OnlyReads nor old new → TurnsAlong nor g old new P []
   unfolding TurnsAlong
-  along_none reads = reads
+  along_none old new P reads = reads
 
-  -- turns are no more than so many
-  pub few_none : {ready : Type 0} {parts : ℕ} → IsFew ready parts 0
-  few_none = record { most = omega arith; few = λ no_tail. omega arith }
+-- turns are no more than so many
+pub few_none : {ready : Type 0} {parts : ℕ} → IsFew ready parts 0
+few_none = record { most = omega arith; few = λ no_tail. omega arith }
 
-  pub few_once : {ready : Type 0} {parts : ℕ} → 1 ≤ parts → IsFew ready parts 1
-  few_once some = record { most = omega (arith, some); few = λ no_tail. some }
+pub few_once : {ready : Type 0} {parts : ℕ} → 1 ≤ parts → IsFew ready parts 1
+few_once some = record { most = omega (arith, some); few = λ no_tail. some }
 
-  -- so do calls: with no more than reads
+module _ {D : Type 0} {nor : NorOf D} {g : Geometry} where
+  -- a call with no more than reads
   pub turns_none : {ready : Type 0} {parts : ℕ} {old new : D} {P : Type 0} → OnlyReads nor old new → CleansInTurns nor g ready parts old new P
-  turns_none reads = record { turns = []; along = along_none reads; few = few_none }
+  turns_none {old = old} {new = new} {P = P} reads = record { turns = []; along = along_none nor g old new P reads; few = few_none }
 
   -- with one turn
   pub turns_once : {ready : Type 0} {parts i p : ℕ} {old new : D} {P : Type 0} → i ≤ 2 → p ≤ 1 → IsFew ready parts 1 → CleansFor nor g i p old new P → CleansInTurns nor g ready parts old new P
-  turns_once {old = old} less fewer few call = record { turns = old ∷ []; along = along_once less fewer call; few = few }
+  turns_once {old = old} {new = new} {P = P} less fewer few call = record { turns = old ∷ []; along = along_once nor g old new P (cleans_more less fewer call); few = few }
 
   -- broken off where another is, and no more than so many
   pub turns_as : {ready other : Type 0} {parts more : ℕ} {old new : D} {P Q : Type 0} → (P → Q) → ((n : ℕ) → IsFew ready parts n → IsFew other more n) → CleansInTurns nor g ready parts old new P → CleansInTurns nor g other more old new Q
-  turns_as on few call = record { turns = call.turns; along = along_as call.turns on call.along; few = few (length call.turns) call.few }
+  turns_as {old = old} {new = new} {P = P} {Q = Q} on few call = record { turns = call.turns; along = along_as nor g old new P Q call.turns on call.along; few = few (length call.turns) call.few }
 
   -- after reads, and before reads
   pub turns_after : {ready : Type 0} {parts : ℕ} {old mid new : D} {P : Type 0} → OnlyReads nor old mid → CleansInTurns nor g ready parts mid new P → CleansInTurns nor g ready parts old new P
-  turns_after reads call = record { turns = call.turns; along = along_after call.turns reads call.along; few = call.few }
+  turns_after {old = old} {mid = mid} {new = new} {P = P} reads call = record { turns = call.turns; along = along_after nor g old mid new P call.turns reads call.along; few = call.few }
 
   pub turns_read : {ready : Type 0} {parts : ℕ} {old mid new : D} {P : Type 0} → CleansInTurns nor g ready parts old mid P → OnlyReads nor mid new → CleansInTurns nor g ready parts old new P
-  turns_read call reads = record { turns = call.turns; along = along_read call.turns call.along reads; few = call.few }
+  turns_read {old = old} {mid = mid} {new = new} {P = P} call reads = record { turns = call.turns; along = along_read nor g old mid new P call.turns call.along reads; few = call.few }
 
   -- one after another
   turns_then : {ready next whole : Type 0} {parts more all : ℕ} {old mid new : D} {P : Type 0} → CleansInTurns nor g ready parts old mid ⊥ → CleansInTurns nor g next more mid new P → ((m n : ℕ) → IsFew ready parts m → IsFew next more n → IsFew whole all (n + m)) →
       CleansInTurns nor g whole all old new P
-  turns_then {whole = whole} {all = all} first last few = record {
+  turns_then {whole = whole} {all = all} {old = old} {mid = mid} {new = new} {P = P} first last few = record {
     turns = last.turns ++ first.turns;
-    along = along_then last.turns first.turns first.along last.along;
+    along = along_then nor g old mid new P last.turns first.turns first.along last.along;
     few = subst (λ (n : ℕ). IsFew whole all n) (sym (length-append last.turns first.turns)) (few (length first.turns) (length last.turns) first.few last.few);
   }
 

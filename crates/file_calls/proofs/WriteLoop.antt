@@ -302,25 +302,18 @@ module _ (g : Geometry) (a mid : List ℕ) (id at from to : ℕ) (known : Bool) 
 -- ---- over a device
 
 module _ {N : Type 0} {nor : NorOf N} {old mid new : View N nor} {r : Result (Unit {0}) FsErr} (id at from to size most : ℕ) (known : Bool) (bytes : List ℕ) (f : File) where
-  -- what is written to a place, and then a part
-  abbrev FirstPart : Type 0
-  FirstPart = Turned {nor = nor} refusing (NeedsNoTail id (length f.bytes) from) (length (ends_to (body old.geometry) (length f.bytes) at (length bytes) from)) old mid (Ok tt) (writing_to id at from bytes f)
-
-  abbrev NextPart : Type 0
-  NextPart = (e : File) → most ≡ length e.bytes →
-      Turned {nor = nor} refusing (NeedsNoTail id (length e.bytes) (from + length (slice_range bytes (from - at) (to - at)))) 1 mid new r (writing_part id known from (slice_range bytes (from - at) (to - at)) e)
-
-  abbrev WholePart : Type 0
-  WholePart = Turned {nor = nor} refusing (NeedsNoTail id (length f.bytes) to) (length (ends_to (body old.geometry) (length f.bytes) at (length bytes) to)) old new r (writing_to id at to bytes f)
-
   -- a part that nothing allows, since no such write is allowed
-  no_turn : (nor.tells old.nor.now → CanWrite old.geometry (nor.bytes old.nor.now) id at bytes f → ⊥) → FirstPart → NextPart → WholePart
+  no_turn : (nor.tells old.nor.now → CanWrite old.geometry (nor.bytes old.nor.now) id at bytes f → ⊥) → Turned refusing (NeedsNoTail id (length f.bytes) from) (length (ends_to (body old.geometry) (length f.bytes) at (length bytes) from)) old mid (Ok tt) (writing_to id at from bytes f) →
+      ((e : File) → most ≡ length e.bytes → Turned refusing (NeedsNoTail id (length e.bytes) (from + length (slice_range bytes (from - at) (to - at)))) 1 mid new r (writing_part id known from (slice_range bytes (from - at) (to - at)) e)) → Turned refusing (NeedsNoTail id (length f.bytes) to) (length (ends_to (body old.geometry) (length f.bytes) at (length bytes) to)) old new r (writing_to id at to bytes f)
   no_turn never first next =
       let some : File = record f { bytes = replicate most 0 } in
       turned_never (stepped_then first.steps (next some (sym (length-replicate {A = ℕ} most 0))).steps (λ tells can. record { needs = can; cut = λ c cut. cut }) (λ tells can done. absurd (never tells can))) never
 
   -- a part more of a write
-  pub write_turn : IsPart (body mid.geometry) size at (length bytes) from to → most ≡ from + (size - from) → (nor.tells old.nor.now → CanWrite old.geometry (nor.bytes old.nor.now) id at bytes f → size ≡ length f.bytes) → (known ≡ true → size < from) → FirstPart → NextPart → WholePart
+  pub write_turn : IsPart (body mid.geometry) size at (length bytes) from to → most ≡ from + (size - from) → (nor.tells old.nor.now → CanWrite old.geometry (nor.bytes old.nor.now) id at bytes f → size ≡ length f.bytes) → (known ≡ true → size < from) →
+      Turned refusing (NeedsNoTail id (length f.bytes) from) (length (ends_to (body old.geometry) (length f.bytes) at (length bytes) from)) old mid (Ok tt) (writing_to id at from bytes f) →
+      ((e : File) → most ≡ length e.bytes → Turned refusing (NeedsNoTail id (length e.bytes) (from + length (slice_range bytes (from - at) (to - at)))) 1 mid new r (writing_part id known from (slice_range bytes (from - at) (to - at)) e)) →
+      Turned refusing (NeedsNoTail id (length f.bytes) to) (length (ends_to (body old.geometry) (length f.bytes) at (length bytes) to)) old new r (writing_to id at to bytes f)
   write_turn part most_is told sure first next = ⊎_elim
       (λ (same : size ≡ length f.bytes). ⊎_elim
       (λ (past : length f.bytes < at). no_turn (λ tells can. let inside = can.from in omega (arith, inside, past)) first next)

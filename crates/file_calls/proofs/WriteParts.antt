@@ -214,18 +214,18 @@ few_index false = omega arith
 needed_few : (g : Geometry) (n : ℕ) → index_needed g n ≤ 2
 needed_few g n = few_index ((n % body g == 0) && nat_le (head_slots g) (n / body g) && ((n / body g - head_slots g) % span_slots g == 0))
 
+pages_few : (g : Geometry) (at count : ℕ) → count ≡ index_needed g at → count ≤ 2
+pages_few g at count is = let few = needed_few g at in omega (arith, few, is)
+
 -- over a view
 module _ {N : Type 0} {nor : NorOf N} {old new : View N nor} {r : Result (Unit {0}) FsErr} (id at : ℕ) (bytes : List ℕ) (f : File) (end : at ≡ length f.bytes) (count : ℕ) (is : count ≡ index_needed old.geometry at) where
-  pages_few : count ≤ 2
-  pages_few = let few = needed_few old.geometry at in omega (arith, few, is)
-
   -- no pages were had
   pub paged_not : {e : FsErr} → Taken refusing count 1 old new (Err e) (taking_pages count 1) → r ≡ Err e → Turned refusing (λ g was. Unit {0}) 1 old new r (writing_part id true at bytes f)
-  paged_not call same = turned_once pages_few (omega arith) (λ tells can. few_once (omega arith)) (taken_passes call same (λ tells can. pages_begin old.geometry (nor.bytes old.nor.now) id at bytes f can end count is))
+  paged_not call same = turned_once (pages_few old.geometry at count is) (omega arith) (λ tells can. few_once (omega arith)) (taken_passes call same (λ tells can. pages_begin old.geometry (nor.bytes old.nor.now) id at bytes f can end count is))
 
   -- .. or they were, and then the page step was taken
   pub paged_then : {mid : View N nor} {x : Unit {0}} → Taken refusing count 1 old mid (Ok x) (taking_pages count 1) → Stepped refusing mid new r (appending id bytes f) → Turned refusing (λ g was. Unit {0}) 1 old new r (writing_part id true at bytes f)
-  paged_then {mid} call next = turned_once pages_few (omega arith) (λ tells can. few_once (omega arith))
+  paged_then {mid} call next = turned_once (pages_few old.geometry at count is) (omega arith) (λ tells can. few_once (omega arith))
       (taken_then (λ g was image cut reserve. cut.reserve reserve) call next
       (λ tells can. pages_begin old.geometry (nor.bytes old.nor.now) id at bytes f can end count is)
       (λ tells can made. pages_end old.geometry (nor.bytes old.nor.now) id at bytes f can end count is (nor.bytes mid.nor.now) made))
