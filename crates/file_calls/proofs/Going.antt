@@ -514,9 +514,9 @@ some_steps g image s ask flat does = ⊎_elim
     does.publishes
 
 -- So a write may clean in turns as its step does, of so many parts: where it needs no tail made ready, nor does the step, and it publishes as many.
-pub record IsTurned {N : Type 0} {nor : NorOf N} (ready : Geometry → List ℕ → Type 0) (parts : ℕ) (old : View N nor) (slots : List FdSlot) (ask : Ask) : Type 0 where
-  pub no_tail : (s : State) → IsImageOf nor old.geometry old.nor.now slots s → WritesNoTail old.geometry (nor.bytes old.nor.now) s ask → ready old.geometry (nor.bytes old.nor.now)
-  pub published : (s : State) → IsImageOf nor old.geometry old.nor.now slots s → parts ≤ length (steps old.geometry (has_spare old.geometry (nor.bytes old.nor.now)) s ask)
+pub record IsTurned {D : Type 0} (nor : NorOf D) (g : Geometry) (ready : Geometry → List ℕ → Type 0) (parts : ℕ) (old : D) (slots : List FdSlot) (ask : Ask) : Type 0 where
+  pub no_tail : (s : State) → IsImageOf nor g old slots s → WritesNoTail g (nor.bytes old) s ask → ready g (nor.bytes old)
+  pub published : (s : State) → IsImageOf nor g old slots s → parts ≤ length (steps g (has_spare g (nor.bytes old)) s ask)
 
 -- a call that took its step after a look
 module _ {N : Type 0} {nor : NorOf N} {old mid new : View N nor} {slots : List FdSlot} {step : Step (Unit {0})} {moved : List (Option Open)} (ask : Ask) (reply : Answer) (flat : is_flat ask ≡ true) (change : is_change ask ≡ true) (fine : slots_fault old.geometry (descriptors slots) ask ≡ None)
@@ -527,7 +527,7 @@ module _ {N : Type 0} {nor : NorOf N} {old mid new : View N nor} {slots : List F
   once call on s here = turns_once (index_few ask) (omega arith) (few_once (some_steps old.geometry (nor.bytes old.nor.now) s ask flat (does.doable s here))) (cleans_as on (call.cleans here.tells (does.can s here)))
 
   -- those of a write in turns
-  in_turns : {E : Type 0} {errors : Errors E} {ready : Geometry → List ℕ → Type 0} {parts : ℕ} {r : Result (Unit {0}) E} {broken : Type 0} → IsTurned ready parts old slots ask → Turned errors ready parts old new r step → (IsErr r → broken) → (s : State) → IsImageOf nor old.geometry old.nor.now slots s →
+  in_turns : {E : Type 0} {errors : Errors E} {ready : Geometry → List ℕ → Type 0} {parts : ℕ} {r : Result (Unit {0}) E} {broken : Type 0} → IsTurned nor old.geometry ready parts old.nor.now slots ask → Turned errors ready parts old new r step → (IsErr r → broken) → (s : State) → IsImageOf nor old.geometry old.nor.now slots s →
       CleansInTurns nor old.geometry (WritesNoTail old.geometry (nor.bytes old.nor.now) s ask) (length (steps old.geometry (has_spare old.geometry (nor.bytes old.nor.now)) s ask)) old.nor.now new.nor.now broken
   in_turns {ready = ready} {parts = parts} turned call on s here =
       turns_as on (few_more (ready old.geometry (nor.bytes old.nor.now)) (WritesNoTail old.geometry (nor.bytes old.nor.now) s ask) parts (length (steps old.geometry (has_spare old.geometry (nor.bytes old.nor.now)) s ask)) (turned.no_tail s here) (turned.published s here)) (call.cleans here.tells (does.can s here))
@@ -569,7 +569,7 @@ module _ {N : Type 0} {nor : NorOf N} {old mid new : View N nor} {slots : List F
 
   -- that of a write
   pub goes_written : is_write ask ≡ true → (last : List FdSlot) → descriptors last ≡ moved → is_refusal reply ≡ false → may_answer ask reply ≡ true → ((bytes : List ℕ) → reply ≡ Gives bytes → ⊥) → (keeps_slots ask ≡ true → last ≡ slots) →
-      {ready : Geometry → List ℕ → Type 0} {parts : ℕ} → IsTurned ready parts old slots ask → Turned stopped ready parts mid new (Ok tt) step → Goes nor old.geometry ask old.nor.now new.nor.now slots last new.wrote reply
+      {ready : Geometry → List ℕ → Type 0} {parts : ℕ} → IsTurned nor old.geometry ready parts old.nor.now slots ask → Turned stopped ready parts mid new (Ok tt) step → Goes nor old.geometry ask old.nor.now new.nor.now slots last new.wrote reply
   goes_written is last moves other may no_bytes keeps turned taken =
       let call = turned_after looks taken in
       done_by last moves other may no_bytes keeps call.steps (λ s here write. absurd (let no : true ≡ false = sym is ∙ write in cc)) (λ s here write. in_turns turned call (λ e. absurd (let no : false ≡ true = e in cc)) s here)
@@ -610,7 +610,7 @@ module _ {N : Type 0} {nor : NorOf N} {old mid new : View N nor} {slots : List F
 
   -- .. in a write
   pub goes_unwritten : is_write ask ≡ true → (why : FsErr) → may_answer ask (Refuses DeviceFault) ≡ true → may_answer ask (Refuses Tight) ≡ true →
-      {ready : Geometry → List ℕ → Type 0} {parts : ℕ} → IsTurned ready parts old slots ask → Turned refusing ready parts mid new (Err why) step → Goes nor old.geometry ask old.nor.now new.nor.now slots slots new.wrote (Refuses why)
+      {ready : Geometry → List ℕ → Type 0} {parts : ℕ} → IsTurned nor old.geometry ready parts old.nor.now slots ask → Turned refusing ready parts mid new (Err why) step → Goes nor old.geometry ask old.nor.now new.nor.now slots slots new.wrote (Refuses why)
   goes_unwritten is why may tight turned taken =
       let call = turned_after looks taken in
       broken_by why (stop_among ask why call.steps.means change may tight) call.steps (λ s here write. absurd (let no : true ≡ false = sym is ∙ write in cc))

@@ -24,6 +24,7 @@ use Rattle.block_gc.specs.RoomMade.{IsReady}
 use Rattle.file_calls.specs.States.{IsImageOf}
 use Rattle.file_calls.specs.Goes.{Does, IsCollected}
 use Rattle.file_calls.proofs.CleansBy.{cleans_read}
+use Rattle.file_calls.proofs.TurnsBy.{turns_read}
 use Rattle.file_calls.specs.Writings.{WriteDone, WritesOn}
 use Rattle.image_model.specs.Sound.{IsSound}
 use Rattle.table_model.specs.Window.{settled_at}
@@ -67,6 +68,7 @@ module _ {D : Type 0} {nor : NorOf D} {g : Geometry} {mid new : D} (reads : Only
       numbered = did.numbered;
       looks = did.looks;
       cleans = λ s here write other. cleans_read (did.cleans s here write other) reads;
+      turns = λ s here write. turns_read (did.turns s here write) reads;
     }
 
     -- a call after which the device is only read
