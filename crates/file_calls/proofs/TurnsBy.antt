@@ -1,5 +1,5 @@
 -- Calls that clean blocks in turns, one step after the other.
-use Rattle.std.proofs.Common.{◌≡◌, ℕ, ◌+◌, ◌-◌, ◌<◌, ◌≤◌, List, [], ◌∷◌, ◌++◌, length, length-append, true, false, refl, sym, ◌∙◌, subst, inr, arith, Result, Ok, Err, IsErr}
+use Rattle.std.proofs.Common.{◌≡◌, ℕ, ◌+◌, ◌-◌, ◌≤◌, List, [], ◌∷◌, ◌++◌, length, length-append, true, false, refl, sym, subst, arith, Result, Ok, Err, IsErr}
 use Rattle.std.proofs.lemmas.Bool.{leb-true, le-leb}
 use Rattle.geometry.specs.declared.geometry.Geometry.{Geometry}
 use Rattle.geometry.specs.Numbers.{entries}
@@ -19,7 +19,7 @@ use Rattle.flash_view.specs.declared.view.View.{View}
 use Rattle.flash_view.specs.Same.{OnlyLooks}
 use Rattle.flash_view.specs.Steps.{Step, Errors, Stepped, Begins, Finishes}
 use Rattle.flash_view.proofs.Stepped.{after_look, stepped_then, passes}
-use Rattle.file_calls.specs.Cleans.{index_taken, SweptFor, CleansFor, Taken, TurnsAlong, IsFew, CleansInTurns, Turned}
+use Rattle.file_calls.specs.Cleans.{index_taken, CleansFor, Taken, TurnsAlong, IsFew, CleansInTurns, Turned}
 use Rattle.file_calls.proofs.CleansBy.{cleans_as, cleans_read}
 
 -- ---- fewer pages

@@ -25,7 +25,7 @@ use Rattle.call_model.proofs.Parts.{steps-among, whole-table, written_next, put_
 use Rattle.call_model.proofs.Tables.{file_of-put, file_of-id}
 use Rattle.flash_view.specs.declared.view.View.{View}
 use Rattle.flash_view.specs.Same.{OnlyLooks}
-use Rattle.flash_view.specs.Steps.{Step, Stepped, Finishes}
+use Rattle.flash_view.specs.Steps.{Step, Finishes}
 use Rattle.flash_view.proofs.Stepped.{stepped_then}
 use Rattle.file_calls.specs.Collecting.{MayStop, refusing}
 use Rattle.file_calls.specs.Cleans.{IsFew, Turned, part_count, NeedsNoTail}
