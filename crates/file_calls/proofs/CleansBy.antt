@@ -1,5 +1,5 @@
 -- Calls that clean blocks for the pages that they take, one step after the other.
-use Rattle.std.proofs.Common.{◌≡◌, ℕ, List, [], true, false, refl, sym, subst, Result, Ok, IsErr}
+use Rattle.std.proofs.Common.{◌≡◌, ℕ, List, [], true, false, refl, sym, subst, Result, Ok, Err, IsErr}
 use Rattle.geometry.specs.declared.geometry.Geometry.{Geometry}
 use Rattle.nor_core.specs.declared.state.NorState.{Ghosts as NorOf}
 use Rattle.nor_core.specs.Device.{OnlyReads, Changes}
@@ -9,7 +9,7 @@ use Rattle.block_gc.specs.RoomMade.{SweptAlong, NoneIs, IsReady}
 use Rattle.flash_view.specs.declared.view.View.{View}
 use Rattle.flash_view.specs.Same.{OnlyLooks}
 use Rattle.flash_view.specs.Steps.{Step, Errors, Stepped, Begins, Finishes}
-use Rattle.flash_view.proofs.Stepped.{after_look, stepped_then}
+use Rattle.flash_view.proofs.Stepped.{after_look, stepped_then, passes}
 use Rattle.file_calls.specs.Collecting.{RoomCut}
 use Rattle.file_calls.specs.Cleans.{SweptFor, CleansFor, Taken}
 
@@ -64,6 +64,11 @@ module _ {N : Type 0} {nor : NorOf N} {index pages : ℕ} where
   pub taken_as : {S T D E : Type 0} {before : Errors D} {errors : Errors E} {old new : View N nor} {r : Result S D} {q : Result T E} {first : Step S} {whole : Step T} → Taken before index pages old new r first → Stepped errors old new q whole →
       (nor.tells old.nor.now → whole.needs old.geometry (nor.bytes old.nor.now) → first.needs old.geometry (nor.bytes old.nor.now)) → (IsErr r → IsErr q) → Taken errors index pages old new q whole
   taken_as call steps needs on = record { steps = steps; cleans = λ tells need. cleans_as on (call.cleans tells (needs tells need)) }
+
+  -- the exit of a `?` on any error
+  pub taken_passes : {S T E : Type 0} {errors : Errors E} {old new : View N nor} {e : E} {r : Result T E} {first : Step S} {whole : Step T} → Taken errors index pages old new (Err e) first → r ≡ Err e →
+      (nor.tells old.nor.now → whole.needs old.geometry (nor.bytes old.nor.now) → Begins old.geometry (nor.bytes old.nor.now) first whole) → Taken errors index pages old new r whole
+  taken_passes {T = T} {E = E} call is begins = taken_as call (passes call.steps is begins) (λ tells need. (begins tells need).needs) (λ e. subst (λ (x : Result T E). IsErr x) (sym is) refl)
 
   -- for the same number of index pages
   pub taken_so : {T E : Type 0} {errors : Errors E} {old new : View N nor} {r : Result T E} {step : Step T} {n : ℕ} → n ≡ index → Taken errors index pages old new r step → Taken errors n pages old new r step

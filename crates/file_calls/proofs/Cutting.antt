@@ -43,7 +43,8 @@ use Rattle.file_calls.specs.Cleans.{index_taken, Taken}
 use Rattle.file_calls.specs.Goes.{Goes}
 use Rattle.file_calls.proofs.Numbered.{numbered_fine}
 use Rattle.file_calls.proofs.CleansBy.{cleans_as, taken_as, taken_after, taken_then}
-use Rattle.file_calls.proofs.Going.{is_flat, not_collects, IsOneStep, one_step, one_does, before_or_after, IsStep, goes_by, no_gift, refuses_same, stop_slots}
+use Rattle.file_calls.proofs.TurnsBy.{index_few, few_once, turns_once}
+use Rattle.file_calls.proofs.Going.{is_flat, not_collects, IsOneStep, one_step, one_does, before_or_after, IsStep, some_steps, goes_by, no_gift, refuses_same, stop_slots}
 use Rattle.file_calls.proofs.Paged.{room_for_one, left_since}
 use Rattle.file_calls.proofs.Descriptors.{open_in, file_at, stat_is}
 use Rattle.file_calls.proofs.Restates.{the_file, the_file_is}
@@ -212,6 +213,7 @@ goes_cornered {nor = nor} {old = old} {mid = mid} {new = new} {slots = slots} {i
     (λ look. absurd (let no : true ≡ false = sym change ∙ look in cc))
     (λ why e. absurd (let no : None ≡ Some why = sym fine ∙ e in cc))
     (λ s here write none. cleans_as (λ e. absurd (let no : false ≡ true = e in cc)) (all.cleans here.tells (does.can s here)))
+    (λ s here write. turns_once (index_few ask) (omega arith) (few_once (some_steps old.geometry (nor.bytes old.nor.now) s ask flat (does.doable s here))) (cleans_as (λ e. absurd (let no : false ≡ true = e in cc)) (all.cleans here.tells (does.can s here))))
 
 -- ---- cuts by descriptor
 

@@ -122,7 +122,7 @@ module _ {N : Type 0} {nor : NorOf N} {old new : View N nor} (slots : List FdSlo
       (λ s here w. flat_does old.geometry (nor.bytes old.nor.now) s)
       (λ none. call.framed.untouched fresh none)
       (λ e. absurd (cc)) (λ d e. absurd (cc)) (λ look. absurd (let no : true ≡ false = look in cc))
-      (λ w e. absurd (let no : None ≡ Some w = e in cc)) (λ s here write other. absurd (other refl))
+      (λ w e. absurd (let no : None ≡ Some w = e in cc)) (λ s here write other. absurd (other refl)) (λ s here write. absurd (let no : false ≡ true = write in cc))
 
   -- collection is stuck
   pub gc_stuck : Stepped stopped old new (Ok true) packing → Goes nor old.geometry Collects old.nor.now new.nor.now slots slots new.wrote (Refuses FsTight)
@@ -137,7 +137,7 @@ module _ {N : Type 0} {nor : NorOf N} {old new : View N nor} (slots : List FdSlo
       (λ none. call.framed.untouched fresh none)
       (λ e. absurd (let no : FsTight ≡ DeviceFault = refuses_same FsTight DeviceFault e in cc)) (λ d e. absurd (let no : FsTight ≡ Damaged d = refuses_same FsTight (Damaged d) e in cc))
       (λ look. absurd (let no : true ≡ false = look in cc))
-      (λ w e. absurd (let no : None ≡ Some w = e in cc)) (λ s here write other. absurd (other refl))
+      (λ w e. absurd (let no : None ≡ Some w = e in cc)) (λ s here write other. absurd (other refl)) (λ s here write. absurd (let no : false ≡ true = write in cc))
 
   -- the device failed, or a page read otherwise
   pub gc_broken : (why : StepErr) → Stepped stopped old new (Err why) packing → Goes nor old.geometry Collects old.nor.now new.nor.now slots slots new.wrote (Refuses (as_fs_err why))
@@ -157,4 +157,4 @@ module _ {N : Type 0} {nor : NorOf N} {old new : View N nor} (slots : List FdSlo
       let is = refuses_same (as_fs_err why) (Damaged d) e in
       (stop_apart (as_fs_err why) d means is, λ s here. let no : Damaged d ≡ DeviceFault = sym is ∙ ap as_fs_err (call.ends here.tells here.tidy) in cc))
       (λ look. absurd (let no : true ≡ false = look in cc))
-      (λ w e. absurd (let no : None ≡ Some w = e in cc)) (λ s here write other. absurd (other refl))
+      (λ w e. absurd (let no : None ≡ Some w = e in cc)) (λ s here write other. absurd (other refl)) (λ s here write. absurd (let no : false ≡ true = write in cc))

@@ -1,7 +1,7 @@
 -- What the exits of calls share.
 use Rattle.std.proofs.lemmas.Bool.{and_parts}
 use Rattle.std.proofs.Common.{◌&&◌, ◌||◌, ◌<◌, zero, suc, length, get_or, ◌≡◌, ◌≢◌, ◌≤◌, ℕ, ◌⊎◌, ⊎_elim, inl, inr, List, [], ◌∷◌, Bool, true, false, refl, sym, ◌∙◌, ap, subst, arith}
-use Rattle.std.specs.Prelude.{Option, Some, None, Result, Ok, Err, IsErrOf}
+use Rattle.std.specs.Prelude.{Option, Some, None, Result, Ok, Err, IsErr, IsErrOf}
 use Rattle.geometry.specs.declared.geometry.Geometry.{Geometry}
 use Rattle.nor_core.specs.declared.state.NorState.{Ghosts as NorOf}
 use Rattle.nor_core.specs.Count.{Rose}
@@ -30,7 +30,7 @@ use Rattle.flash_view.specs.declared.kinds.StepErr.TheVariants.{DeviceFault as S
 use Rattle.flash_view.specs.declared.view.View.{View}
 use Rattle.flash_view.specs.Same.{OnlyLooks}
 use Rattle.flash_view.specs.Steps.{Step, Errors, Stepped, as_fs_err, stopped}
-use Rattle.flash_view.proofs.Stepped.{after_look, fails_as}
+use Rattle.flash_view.proofs.Stepped.{fails_as}
 use Rattle.table_model.specs.Steps.{steps}
 use Rattle.table_model.specs.Window.{IsAmong}
 use Rattle.file_calls.specs.Replies.{is_of_name, is_of_slots, is_of_descriptor, is_early, meets, may_meet, may_show, has_name, is_change, is_write, reads_file, keeps_slots, may_answer, names_fault, reply_of, is_calm}
@@ -49,10 +49,11 @@ use Rattle.room_laws.specs.Recovery.{Recovers}
 use Rattle.room_laws.proofs.Staying.{reserve_mends}
 use Rattle.file_calls.specs.States.{IsImageOf}
 use Rattle.file_calls.specs.Collecting.{MayStop, refusing, RoomCut}
-use Rattle.file_calls.specs.Cleans.{index_taken, CleansFor, Taken}
+use Rattle.file_calls.specs.Cleans.{index_taken, CleansFor, Taken, CleansInTurns, Turned, WritesNoTail}
 use Rattle.file_calls.proofs.Numbered.{name_of_slots, names_barred, numbered_fine, numbered_refused}
 use Rattle.file_calls.specs.Goes.{CallCut, Reaches, IsDoable, IsCorner, StopsShort, StaysAt, IsCollected, IsGiven, Goes}
 use Rattle.file_calls.proofs.CleansBy.{cleans_as, cleans_reads, taken_as, taken_after}
+use Rattle.file_calls.proofs.TurnsBy.{index_few, some_among, few_once, few_more, turns_none, turns_once, turns_as, turned_after}
 
 -- ---- the flat table
 
@@ -208,6 +209,11 @@ table_names g image name f at = (found-by_id g image f).0 name at
 pub names_by : (g : Geometry) (image : List ℕ) (s : State) → s.table ≡ table_of g image → NamesById s.table
 names_by g image s same = subst NamesById (sym same) (table_names g image)
 
+-- the turns in which a write cleans
+abbrev pub TurnsFor : {D : Type 0} (nor : NorOf D) (g : Geometry) (old new : D) (slots : List FdSlot) (ask : Ask) (reply : Answer) → Type 0
+TurnsFor nor g old new slots ask reply = (s : State) → IsImageOf nor g old slots s → is_write ask ≡ true →
+    CleansInTurns nor g (WritesNoTail g (nor.bytes old) s ask) (length (steps g (has_spare g (nor.bytes old)) s ask)) old new (reply ≡ Refuses DeviceFault)
+
 -- what any answer is, whatever the device tells
 pub record IsFit (g : Geometry) (ask : Ask) (slots after : List FdSlot) (wrote : Bool) (reply : Answer) : Type 0 where
   pub among : may_answer ask reply ≡ true
@@ -253,8 +259,8 @@ module _ {D : Type 0} {nor : NorOf D} {g : Geometry} {slots : List FdSlot} where
       ((s : State) → IsImageOf nor g old slots s → IsCorner g (nor.bytes old) s ask → reply ≡ Refuses Tight → StaysAt nor g new after s) → ((s : State) → IsImageOf nor g old slots s → wrote ≡ true → IsDoable g (nor.bytes old) s ask) → (wrote ≡ false → OnlyReads nor old new) → (reply ≡ Refuses DeviceFault → Rose (nor.faults old) (nor.faults new)) →
       ((d : Differ) → reply ≡ Refuses (Damaged d) → (d.wanted ≢ d.found) × ((s : State) → IsImageOf nor g old slots s → ⊥)) → (is_change ask ≡ false → wrote ≡ false) →
       ((why : FsErr) → slots_fault g (descriptors slots) ask ≡ Some why → new ≡ old) →
-      ((s : State) → IsImageOf nor g old slots s → is_write ask ≡ false → (ask ≡ Collects → ⊥) → CleansFor nor g (index_taken ask) 0 old new (reply ≡ Refuses DeviceFault)) → Goes nor g ask old new slots after wrote reply
-  goes_by ask reply wrote fit cuts upkeep answers collects cornered begun untouched cause differs looks quiet cleans = record {
+      ((s : State) → IsImageOf nor g old slots s → is_write ask ≡ false → (ask ≡ Collects → ⊥) → CleansFor nor g (index_taken ask) 0 old new (reply ≡ Refuses DeviceFault)) → TurnsFor nor g old new slots ask reply → Goes nor g ask old new slots after wrote reply
+  goes_by ask reply wrote fit cuts upkeep answers collects cornered begun untouched cause differs looks quiet cleans turns = record {
     does = record {
       cuts = cuts;
       upkeep = upkeep;
@@ -272,6 +278,7 @@ module _ {D : Type 0} {nor : NorOf D} {g : Geometry} {slots : List FdSlot} where
       numbered = fit.numbered;
       looks = looks;
       cleans = cleans;
+      turns = turns;
     };
     answers = answers;
     quiet = quiet;
@@ -295,7 +302,7 @@ module _ {D : Type 0} {nor : NorOf D} {g : Geometry} {slots : List FdSlot} where
       let told = is s here (λ fault. let no : Tight ≡ DeviceFault = refuses_same Tight DeviceFault (sym tight ∙ fault) in cc) in
       absurd (let no : true ≡ false = sym (ap (λ (o : Outcome). is_refusal o.answer) told ∙ ap is_refusal tight) ∙ corner.done in cc))
       (λ s here w. absurd (let no : true ≡ false = sym w ∙ none in cc))
-      (λ w. reads) cause differs (λ look. none) quiet (λ s here write other. cleans_reads (room_stays g (nor.bytes old) here.tidy) reads)
+      (λ w. reads) cause differs (λ look. none) quiet (λ s here write other. cleans_reads (room_stays g (nor.bytes old) here.tidy) reads) (λ s here write. turns_none reads)
 
   -- a call that was answered with a look, and moved descriptors
   pub goes_moved : {old new : D} {after : List FdSlot} (ask : Ask) (reply : Answer) (wrote : Bool) → wrote ≡ false → OnlyReads nor old new → is_flat ask ≡ true → slots_fault g (descriptors slots) ask ≡ None → is_refusal reply ≡ false → may_answer ask reply ≡ true →
@@ -499,15 +506,35 @@ step_fails {why = why} call = fails_as call (fault_is why) (λ e. ap as_fs_err e
 abbrev pub CleansIn : {N : Type 0} {nor : NorOf N} (old new : View N nor) (slots : List FdSlot) (ask : Ask) (reply : Answer) → Type 0
 CleansIn {nor = nor} old new slots ask reply = (s : State) → IsImageOf nor old.geometry old.nor.now slots s → is_write ask ≡ false → CleansFor nor old.geometry (index_taken ask) 0 old.nor.now new.nor.now (reply ≡ Refuses DeviceFault)
 
+-- a call that the flat table does publishes a step, unless it is for garbage collection
+pub some_steps : (g : Geometry) (image : List ℕ) (s : State) (ask : Ask) → is_flat ask ≡ true → IsDoable g image s ask → 1 ≤ length (steps g (has_spare g image) s ask)
+some_steps g image s ask flat does = ⊎_elim
+    (λ (collects : ask ≡ Collects). absurd (not_collects ask flat collects))
+    (λ (among : IsAmong (answer g (has_spare g image) s ask).next.table (steps g (has_spare g image) s ask)). some_among (answer g (has_spare g image) s ask).next.table (steps g (has_spare g image) s ask) among)
+    does.publishes
+
+-- So a write may clean in turns as its step does, of so many parts: where it needs no tail made ready, nor does the step, and it publishes as many.
+pub record IsTurned {D : Type 0} (nor : NorOf D) (g : Geometry) (ready : Geometry → List ℕ → Type 0) (parts : ℕ) (old : D) (slots : List FdSlot) (ask : Ask) : Type 0 where
+  pub no_tail : (s : State) → IsImageOf nor g old slots s → WritesNoTail g (nor.bytes old) s ask → ready g (nor.bytes old)
+  pub published : (s : State) → IsImageOf nor g old slots s → parts ≤ length (steps g (has_spare g (nor.bytes old)) s ask)
+
 -- a call that took its step after a look
 module _ {N : Type 0} {nor : NorOf N} {old mid new : View N nor} {slots : List FdSlot} {step : Step (Unit {0})} {moved : List (Option Open)} (ask : Ask) (reply : Answer) (flat : is_flat ask ≡ true) (change : is_change ask ≡ true) (fine : slots_fault old.geometry (descriptors slots) ask ≡ None)
     (does : IsStep nor old.geometry slots ask reply moved old.nor.now step) (looks : OnlyLooks old mid) (fresh : old.wrote ≡ false) where
-  after : {E : Type 0} {errors : Errors E} {r : Result (Unit {0}) E} → Stepped errors mid new r step → Stepped errors old new r step
-  after call = after_look looks call (λ tells need. record { needs = need; cut = λ c cut. cut; done = λ c ok done. done })
+  -- the pages of no write were had in one turn
+  once : {E : Type 0} {errors : Errors E} {r : Result (Unit {0}) E} {broken : Type 0} → Taken errors (index_taken ask) 0 old new r step → (IsErr r → broken) → (s : State) → IsImageOf nor old.geometry old.nor.now slots s →
+      CleansInTurns nor old.geometry (WritesNoTail old.geometry (nor.bytes old.nor.now) s ask) (length (steps old.geometry (has_spare old.geometry (nor.bytes old.nor.now)) s ask)) old.nor.now new.nor.now broken
+  once call on s here = turns_once (index_few ask) (omega arith) (few_once (some_steps old.geometry (nor.bytes old.nor.now) s ask flat (does.doable s here))) (cleans_as on (call.cleans here.tells (does.can s here)))
+
+  -- those of a write in turns
+  in_turns : {E : Type 0} {errors : Errors E} {ready : Geometry → List ℕ → Type 0} {parts : ℕ} {r : Result (Unit {0}) E} {broken : Type 0} → IsTurned nor old.geometry ready parts old.nor.now slots ask → Turned errors ready parts old new r step → (IsErr r → broken) → (s : State) → IsImageOf nor old.geometry old.nor.now slots s →
+      CleansInTurns nor old.geometry (WritesNoTail old.geometry (nor.bytes old.nor.now) s ask) (length (steps old.geometry (has_spare old.geometry (nor.bytes old.nor.now)) s ask)) old.nor.now new.nor.now broken
+  in_turns {ready = ready} {parts = parts} turned call on s here =
+      turns_as on (few_more (ready old.geometry (nor.bytes old.nor.now)) (WritesNoTail old.geometry (nor.bytes old.nor.now) s ask) parts (length (steps old.geometry (has_spare old.geometry (nor.bytes old.nor.now)) s ask)) (turned.no_tail s here) (turned.published s here)) (call.cleans here.tells (does.can s here))
 
   -- the step was done
-  done_by : (last : List FdSlot) → descriptors last ≡ moved → is_refusal reply ≡ false → may_answer ask reply ≡ true → ((bytes : List ℕ) → reply ≡ Gives bytes → ⊥) → (keeps_slots ask ≡ true → last ≡ slots) → Stepped stopped old new (Ok tt) step → CleansIn old new slots ask reply → Goes nor old.geometry ask old.nor.now new.nor.now slots last new.wrote reply
-  done_by last moves other may no_bytes keeps call cleaned =
+  done_by : (last : List FdSlot) → descriptors last ≡ moved → is_refusal reply ≡ false → may_answer ask reply ≡ true → ((bytes : List ℕ) → reply ≡ Gives bytes → ⊥) → (keeps_slots ask ≡ true → last ≡ slots) → Stepped stopped old new (Ok tt) step → CleansIn old new slots ask reply → TurnsFor nor old.geometry old.nor.now new.nor.now slots ask reply → Goes nor old.geometry ask old.nor.now new.nor.now slots last new.wrote reply
+  done_by last moves other may no_bytes keeps call cleaned turns =
       goes_by ask reply new.wrote
       (record {
         among = may;
@@ -532,20 +559,24 @@ module _ {N : Type 0} {nor : NorOf N} {old mid new : View N nor} {slots : List F
       (λ none. call.framed.untouched fresh none)
       (λ e. absurd (no_refusal reply DeviceFault other e))
       (λ d e. absurd (no_refusal reply (Damaged d) other e)) (λ look. absurd (let no : true ≡ false = sym change ∙ look in cc))
-      (λ why e. absurd (let no : None ≡ Some why = sym fine ∙ e in cc)) (λ s here write none. cleaned s here write)
+      (λ why e. absurd (let no : None ≡ Some why = sym fine ∙ e in cc)) (λ s here write none. cleaned s here write) turns
 
   pub goes_done : (last : List FdSlot) → descriptors last ≡ moved → is_refusal reply ≡ false → may_answer ask reply ≡ true → ((bytes : List ℕ) → reply ≡ Gives bytes → ⊥) → (keeps_slots ask ≡ true → last ≡ slots) → Taken stopped (index_taken ask) 0 mid new (Ok tt) step → Goes nor old.geometry ask old.nor.now new.nor.now slots last new.wrote reply
   goes_done last moves other may no_bytes keeps taken =
       let call = taken_after looks taken in
       done_by last moves other may no_bytes keeps call.steps (λ s here write. cleans_as (λ e. absurd (let no : false ≡ true = e in cc)) (call.cleans here.tells (does.can s here)))
+      (λ s here write. once call (λ e. absurd (let no : false ≡ true = e in cc)) s here)
 
   -- that of a write
-  pub goes_written : is_write ask ≡ true → (last : List FdSlot) → descriptors last ≡ moved → is_refusal reply ≡ false → may_answer ask reply ≡ true → ((bytes : List ℕ) → reply ≡ Gives bytes → ⊥) → (keeps_slots ask ≡ true → last ≡ slots) → Stepped stopped mid new (Ok tt) step → Goes nor old.geometry ask old.nor.now new.nor.now slots last new.wrote reply
-  goes_written is last moves other may no_bytes keeps taken = done_by last moves other may no_bytes keeps (after taken) (λ s here write. absurd (let no : true ≡ false = sym is ∙ write in cc))
+  pub goes_written : is_write ask ≡ true → (last : List FdSlot) → descriptors last ≡ moved → is_refusal reply ≡ false → may_answer ask reply ≡ true → ((bytes : List ℕ) → reply ≡ Gives bytes → ⊥) → (keeps_slots ask ≡ true → last ≡ slots) →
+      {ready : Geometry → List ℕ → Type 0} {parts : ℕ} → IsTurned nor old.geometry ready parts old.nor.now slots ask → Turned stopped ready parts mid new (Ok tt) step → Goes nor old.geometry ask old.nor.now new.nor.now slots last new.wrote reply
+  goes_written is last moves other may no_bytes keeps turned taken =
+      let call = turned_after looks taken in
+      done_by last moves other may no_bytes keeps call.steps (λ s here write. absurd (let no : true ≡ false = sym is ∙ write in cc)) (λ s here write. in_turns turned call (λ e. absurd (let no : false ≡ true = e in cc)) s here)
 
   -- it was not
-  broken_by : (why : FsErr) → may_answer ask (Refuses why) ≡ true → Stepped refusing old new (Err why) step → CleansIn old new slots ask (Refuses why) → Goes nor old.geometry ask old.nor.now new.nor.now slots slots new.wrote (Refuses why)
-  broken_by why may call cleaned = goes_by ask (Refuses why) new.wrote
+  broken_by : (why : FsErr) → may_answer ask (Refuses why) ≡ true → Stepped refusing old new (Err why) step → CleansIn old new slots ask (Refuses why) → TurnsFor nor old.geometry old.nor.now new.nor.now slots ask (Refuses why) → Goes nor old.geometry ask old.nor.now new.nor.now slots slots new.wrote (Refuses why)
+  broken_by why may call cleaned turns = goes_by ask (Refuses why) new.wrote
       (record {
         among = may;
         brief = λ bytes e. absurd (no_gift (Refuses why) bytes refl e);
@@ -562,10 +593,12 @@ module _ {N : Type 0} {nor : NorOf N} {old mid new : View N nor} {slots : List F
       (λ none. call.framed.untouched fresh none)
       (λ e. call.cause (ap (λ (w : FsErr). Err w) (refuses_same why DeviceFault e)))
       (λ d e. let is = refuses_same why (Damaged d) e in (stop_apart why d call.means is, λ s here. let no : Damaged d ≡ DeviceFault = sym is ∙ call.ends here.tells (does.can s here) in cc)) (λ look. absurd (let no : true ≡ false = sym change ∙ look in cc))
-      (λ v e. absurd (let no : None ≡ Some v = sym fine ∙ e in cc)) (λ s here write none. cleaned s here write)
+      (λ v e. absurd (let no : None ≡ Some v = sym fine ∙ e in cc)) (λ s here write none. cleaned s here write) turns
 
   taken_broken : (why : FsErr) → may_answer ask (Refuses why) ≡ true → Taken refusing (index_taken ask) 0 old new (Err why) step → Goes nor old.geometry ask old.nor.now new.nor.now slots slots new.wrote (Refuses why)
-  taken_broken why may call = broken_by why may call.steps (λ s here write. cleans_as (λ e. ap (λ (w : FsErr). Refuses w) (call.steps.ends here.tells (does.can s here))) (call.cleans here.tells (does.can s here)))
+  taken_broken why may call = broken_by why may call.steps
+      (λ s here write. cleans_as (λ e. ap (λ (w : FsErr). Refuses w) (call.steps.ends here.tells (does.can s here))) (call.cleans here.tells (does.can s here)))
+      (λ s here write. once call (λ e. ap (λ (w : FsErr). Refuses w) (call.steps.ends here.tells (does.can s here))) s here)
 
   -- the device failed in the step, or a page read otherwise
   pub goes_broken : (why : StepErr) → may_answer ask (Refuses DeviceFault) ≡ true → Taken stopped (index_taken ask) 0 mid new (Err why) step → Goes nor old.geometry ask old.nor.now new.nor.now slots slots new.wrote (Refuses (as_fs_err why))
@@ -576,5 +609,9 @@ module _ {N : Type 0} {nor : NorOf N} {old mid new : View N nor} {slots : List F
   goes_stopped why may tight taken = taken_broken why (stop_among ask why taken.steps.means change may tight) (taken_after looks taken)
 
   -- .. in a write
-  pub goes_unwritten : is_write ask ≡ true → (why : FsErr) → may_answer ask (Refuses DeviceFault) ≡ true → may_answer ask (Refuses Tight) ≡ true → Stepped refusing mid new (Err why) step → Goes nor old.geometry ask old.nor.now new.nor.now slots slots new.wrote (Refuses why)
-  goes_unwritten is why may tight taken = broken_by why (stop_among ask why taken.means change may tight) (after taken) (λ s here write. absurd (let no : true ≡ false = sym is ∙ write in cc))
+  pub goes_unwritten : is_write ask ≡ true → (why : FsErr) → may_answer ask (Refuses DeviceFault) ≡ true → may_answer ask (Refuses Tight) ≡ true →
+      {ready : Geometry → List ℕ → Type 0} {parts : ℕ} → IsTurned nor old.geometry ready parts old.nor.now slots ask → Turned refusing ready parts mid new (Err why) step → Goes nor old.geometry ask old.nor.now new.nor.now slots slots new.wrote (Refuses why)
+  goes_unwritten is why may tight turned taken =
+      let call = turned_after looks taken in
+      broken_by why (stop_among ask why call.steps.means change may tight) call.steps (λ s here write. absurd (let no : true ≡ false = sym is ∙ write in cc))
+      (λ s here write. in_turns turned call (λ e. ap (λ (w : FsErr). Refuses w) (call.steps.ends here.tells (does.can s here))) s here)

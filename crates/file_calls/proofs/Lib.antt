@@ -3,6 +3,7 @@ pub mod Living
 pub mod Recording
 pub mod Numbered
 pub mod CleansBy
+pub mod TurnsBy
 pub mod Going
 pub mod Paged
 pub mod GcCalls

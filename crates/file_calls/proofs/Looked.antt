@@ -15,6 +15,7 @@ use Rattle.fd_table.specs.Slots.{descriptors}
 use Rattle.file_calls.specs.Slots.{slots_fault}
 use Rattle.file_calls.specs.Goes.{Reaches, Does, Goes}
 use Rattle.file_calls.proofs.CleansBy.{cleans_after}
+use Rattle.file_calls.proofs.TurnsBy.{turns_after}
 use Rattle.file_calls.proofs.Going.{reads_stay, rose_later}
 
 module _ {D : Type 0} {nor : NorOf D} {g : Geometry} {old mid : D} (reads : OnlyReads nor old mid) where
@@ -44,6 +45,7 @@ module _ {D : Type 0} {nor : NorOf D} {g : Geometry} {old mid : D} (reads : Only
     numbered = call.numbered;
     looks = call.looks;
     cleans = λ s here write other. cleans_after reads (call.cleans s (reads_stay s reads here) write other);
+    turns = λ s here write. rw reads.bytes at (turns_after reads (call.turns s (reads_stay s reads here) write));
   }
 
   goes_from : {new : D} {slots after : List FdSlot} {ask : Ask} {reply : Answer} {wrote : Bool} → slots_fault g (descriptors slots) ask ≡ None → Goes nor g ask mid new slots after wrote reply → Goes nor g ask old new slots after wrote reply

@@ -1,9 +1,10 @@
 -- A write, one part after another.
-use Rattle.std.proofs.Common.{◌≡◌, ℕ, ◌+◌, ◌-◌, ◌%◌, ◌<◌, ◌≤◌, ◌^◌, ⊎_elim, inl, inr, List, ◌∷◌, ◌++◌, length, take, drop, replicate, Bool, true, refl, sym, ◌∙◌, ap, subst, arith}
-use Rattle.std.specs.Prelude.{Some, None, Result, Ok, Err, slice_range}
+use Rattle.std.proofs.Common.{◌≡◌, ℕ, zero, suc, ◌+◌, ◌-◌, ◌%◌, ◌<◌, ◌≤◌, ◌⊎◌, ◌^◌, ◌==◌, ◌||◌, ⊎_elim, inl, inr, List, ◌∷◌, ◌++◌, length, take, drop, replicate, Bool, true, false, refl, sym, ◌∙◌, ap, subst, arith}
+use Rattle.std.specs.Prelude.{Some, None, Result, Ok, Err, filter, slice_range}
+use Rattle.std.specs.List.{range_with_len}
 use Rattle.std.specs.Option.{option_map}
-use Rattle.std.proofs.lemmas.Bool.{cases_lt, cases_eq}
-use Rattle.std.proofs.lemmas.List.{length-replicate, length-take-le, take-append-drop, append-nil, length-drop}
+use Rattle.std.proofs.lemmas.Bool.{cases_Bool, cases_lt, cases_eq, eq-eqb, or_left, or_right}
+use Rattle.std.proofs.lemmas.List.{length-replicate, length-map, length-take-le, take-append-drop, append-nil, length-drop}
 use Rattle.nor_core.specs.declared.state.NorState.{Ghosts as NorOf}
 use Rattle.geometry.specs.declared.geometry.Geometry.{Geometry}
 use Rattle.geometry.specs.Numbers.{body}
@@ -13,7 +14,7 @@ use Rattle.table_model.specs.declared.reply.Stat.{Stat}
 use Rattle.table_model.specs.Table.{File, file_of, put_file}
 use Rattle.table_model.specs.Files.{written, stat_of}
 use Rattle.table_model.specs.Room.{has_room}
-use Rattle.table_model.specs.Steps.{file_steps, written_up_to}
+use Rattle.table_model.specs.Steps.{part_ends, file_steps, written_up_to}
 use Rattle.table_model.specs.Window.{IsAmong}
 use Rattle.image_model.specs.Tables.{table_of}
 use Rattle.image_model.specs.Tidy.{IsTidy, HasReserve}
@@ -24,9 +25,10 @@ use Rattle.call_model.proofs.Parts.{steps-among, whole-table, written_next, put_
 use Rattle.call_model.proofs.Tables.{file_of-put, file_of-id}
 use Rattle.flash_view.specs.declared.view.View.{View}
 use Rattle.flash_view.specs.Same.{OnlyLooks}
-use Rattle.flash_view.specs.Steps.{Step, Stepped, Finishes}
+use Rattle.flash_view.specs.Steps.{Step, Finishes}
 use Rattle.flash_view.proofs.Stepped.{stepped_then}
 use Rattle.file_calls.specs.Collecting.{MayStop, refusing}
+use Rattle.file_calls.specs.Cleans.{IsFew, Turned, part_count, NeedsNoTail}
 use Rattle.file_calls.specs.Recorded.{MayMiss, TellsRecord}
 use Rattle.file_calls.specs.Cuts.{JobCut}
 use Rattle.renew_laws.specs.Tails.{IsTailReady}
@@ -34,6 +36,7 @@ use Rattle.file_calls.specs.Writings.{CanWrite, CanWritePart, WriteDone, WriteCu
 use Rattle.file_calls.proofs.Going.{is_first, tidy_sound}
 use Rattle.file_calls.proofs.Resizing.{put_again, written_size}
 use Rattle.file_calls.proofs.PartRoom.{less_room, few_bytes}
+use Rattle.file_calls.proofs.TurnsBy.{few_more, turned_never, turned_then}
 
 -- ---- what is written so far
 
@@ -113,6 +116,70 @@ pub record IsPart (page size at len from to : ℕ) : Type 0 where
 
 pub is_part : (page size at len from to end : ℕ) → at ≤ from → end ≡ at + len → from < to → to ≤ end → from % page + (to - from) ≤ page → (from < size → to ≤ size) → ((start count : ℕ) → start ≤ from → end ≡ start + count → IsPartEnd page size start count to) → IsPart page size at len from to
 is_part page size at len from to end low end_is some within one_page old is_end = record { low = low; some = some; within = omega (arith, end_is, within); one_page = one_page; old = old; is_end = is_end at len low end_is }
+
+-- ---- how many parts there are
+
+-- the ends of parts before a place
+abbrev pub ends_to : (page size at len e : ℕ) → List ℕ
+ends_to page size at len e = filter (λ x. (x % page == 0) || (x == size) || (x == at + len)) (range_with_len (at + 1) (e - at))
+
+-- those that pass of the first numbers are among those of more
+chosen_less : (p : ℕ → Bool) (a n m : ℕ) → n ≤ m → length (filter p (range_with_len a n)) ≤ length (filter p (range_with_len a m))
+chosen_less p a zero m less = omega arith
+chosen_less p a (suc n) zero less = absurd (omega (arith, less))
+chosen_less p a (suc n) (suc m) less =
+    let rest = chosen_less p (a + 1) n m (omega (arith, less)) in
+    ⊎_elim
+    (λ (yes : p a ≡ true). rw yes (omega (arith, rest)))
+    (λ (no : p a ≡ false). rw no rest)
+    (cases_Bool (p a))
+
+-- and they are fewer where one of the others passes
+chosen_more : (p : ℕ → Bool) (a n m e : ℕ) → a + n ≤ e → e < a + m → p e ≡ true → length (filter p (range_with_len a n)) + 1 ≤ length (filter p (range_with_len a m))
+chosen_more p a n zero e low high passes = absurd (omega (arith, low, high))
+chosen_more p a zero (suc m) e low high passes = ⊎_elim
+    (λ (here : a ≡ e). let now : p a ≡ true = rw here passes in rw now (omega arith))
+    (λ (there : a ≡ e → ⊥).
+    let rest = chosen_more p (a + 1) zero m e (omega (arith, there, low)) (omega (arith, high)) passes in
+    ⊎_elim
+    (λ (yes : p a ≡ true). rw yes (omega arith))
+    (λ (no : p a ≡ false). rw no rest)
+    (cases_Bool (p a)))
+    (cases_eq a e)
+chosen_more p a (suc n) (suc m) e low high passes =
+    let rest = chosen_more p (a + 1) n m e (omega (arith, low)) (omega (arith, high)) passes in
+    ⊎_elim
+    (λ (yes : p a ≡ true). rw yes (omega (arith, rest)))
+    (λ (no : p a ≡ false). rw no rest)
+    (cases_Bool (p a))
+
+-- a part has an end
+is_end : (page size at len e : ℕ) → IsPartEnd page size at len e → ((e % page == 0) || (e == size) || (e == at + len)) ≡ true
+is_end page size at len e end = ⊎_elim
+    (λ (of_page : e % page ≡ 0). or_left ((e % page == 0) || (e == size)) (e == at + len) (or_left (e % page == 0) (e == size) (eq-eqb (e % page) 0 of_page)))
+    (λ (other : (e ≡ size) ⊎ (e ≡ at + len)). ⊎_elim
+    (λ (old : e ≡ size). or_left ((e % page == 0) || (e == size)) (e == at + len) (or_right (e % page == 0) (e == size) (eq-eqb e size old)))
+    (λ (own : e ≡ at + len). or_right ((e % page == 0) || (e == size)) (e == at + len) (eq-eqb e (at + len) own))
+    other)
+    end.ends
+
+ends_more : (page size at len from to : ℕ) → IsPart page size at len from to → length (ends_to page size at len from) + 1 ≤ length (ends_to page size at len to)
+ends_more page size at len from to part =
+    let low = part.low in
+    let some = part.some in
+    chosen_more (λ x. (x % page == 0) || (x == size) || (x == at + len)) (at + 1) (from - at) (to - at) to (omega (arith, low, some)) (omega (arith, low, some)) (is_end page size at len to part.is_end)
+
+-- those before a place are among all
+pub few_part : (g : Geometry) (a : List ℕ) (id page size at len to n : ℕ) → to ≤ at + len → IsFew (NeedsNoTail id size to g a) (length (ends_to page size at len to)) n → IsFew (NeedsNoTail id size (at + len) g a) (length (part_ends page size at len)) n
+few_part g a id page size at len to n within few =
+    let parts = chosen_less (λ x. (x % page == 0) || (x == size) || (x == at + len)) (at + 1) (to - at) len (omega (arith, within)) in
+    few_more (NeedsNoTail id size to g a) (NeedsNoTail id size (at + len) g a) (length (ends_to page size at len to)) (length (part_ends page size at len))
+    (λ no_tail. ⊎_elim (λ (inside : at + len ≤ size). inl (omega (arith, inside, within))) (λ (ready : IsTailReady g a id). inr ready) no_tail) parts n few
+
+-- a write publishes a step for each
+pub steps_count : (g : Geometry) (at : ℕ) (bytes : List ℕ) (f : File) (files : List File) → length (file_steps g at bytes f files) ≡ part_count g (length f.bytes) at (length bytes)
+unfolding file_steps
+steps_count g at bytes f files = length-map (part_ends (body g) (length f.bytes) at (length bytes)) (written_up_to at bytes f files)
 
 module _ (g : Geometry) (a mid : List ℕ) (id at from to : ℕ) (known : Bool) (bytes : List ℕ) (f : File) (can : CanWrite g a id at bytes f) (part : IsPart (body g) (length f.bytes) at (length bytes) from to) (done : WrittenTo g id at from bytes f a mid)
     (sure : known ≡ true → length f.bytes < from) where
@@ -201,27 +268,62 @@ module _ (g : Geometry) (a mid : List ℕ) (id at from to : ℕ) (known : Bool) 
     };
   }
 
+  -- the turns that it takes are those of one part more
+  pub part_few : (m n : ℕ) → IsFew (NeedsNoTail id (length f.bytes) from g a) (length (ends_to (body g) (length f.bytes) at (length bytes) from)) m →
+      IsFew (NeedsNoTail id (length (so_far at from bytes f).bytes) (from + length bytes_of) g mid) 1 n → IsFew (NeedsNoTail id (length f.bytes) to g a) (length (ends_to (body g) (length f.bytes) at (length bytes) to)) (n + m)
+  part_few m n first last =
+      let more = ends_more (body g) (length f.bytes) at (length bytes) from to part in
+      let some = part.some in
+      let low = first.most in
+      let high = last.most in
+      let count_is = count in
+      let long = long_before in
+      ⊎_elim
+      (λ (past : length f.bytes < from).
+      let one = last.few (inr (done.ready past)) in
+      record {
+        most = omega (arith, more, low, one);
+        few = λ no_tail. ⊎_elim
+            (λ (inside : to ≤ length f.bytes). absurd (omega (arith, inside, past, some)))
+            (λ (ready : IsTailReady g a id). let none = first.few (inr ready) in omega (arith, more, none, one))
+            no_tail;
+      })
+      (λ (inner : from ≤ length f.bytes).
+      let none = first.few (inl inner) in
+      record {
+        most = omega (arith, more, none, high);
+        few = λ no_tail. ⊎_elim
+            (λ (inside : to ≤ length f.bytes). let one = last.few (inl (omega (arith, inside, count_is, long, some))) in omega (arith, more, none, one))
+            (λ (ready : IsTailReady g a id). let one = last.few (inr (done.kept ready)) in omega (arith, more, none, one))
+            no_tail;
+      })
+      (cases_lt (length f.bytes) from)
+
 -- ---- over a device
 
 module _ {N : Type 0} {nor : NorOf N} {old mid new : View N nor} {r : Result (Unit {0}) FsErr} (id at from to size most : ℕ) (known : Bool) (bytes : List ℕ) (f : File) where
   -- a part that nothing allows, since no such write is allowed
-  no_turn : (nor.tells old.nor.now → CanWrite old.geometry (nor.bytes old.nor.now) id at bytes f → ⊥) → Stepped refusing old mid (Ok tt) (writing_to id at from bytes f) →
-      ((e : File) → most ≡ length e.bytes → Stepped refusing mid new r (writing_part id known from (slice_range bytes (from - at) (to - at)) e)) → Stepped refusing old new r (writing_to id at to bytes f)
+  no_turn : (nor.tells old.nor.now → CanWrite old.geometry (nor.bytes old.nor.now) id at bytes f → ⊥) → Turned refusing (NeedsNoTail id (length f.bytes) from) (length (ends_to (body old.geometry) (length f.bytes) at (length bytes) from)) old mid (Ok tt) (writing_to id at from bytes f) →
+      ((e : File) → most ≡ length e.bytes → Turned refusing (NeedsNoTail id (length e.bytes) (from + length (slice_range bytes (from - at) (to - at)))) 1 mid new r (writing_part id known from (slice_range bytes (from - at) (to - at)) e)) → Turned refusing (NeedsNoTail id (length f.bytes) to) (length (ends_to (body old.geometry) (length f.bytes) at (length bytes) to)) old new r (writing_to id at to bytes f)
   no_turn never first next =
       let some : File = record f { bytes = replicate most 0 } in
-      stepped_then first (next some (sym (length-replicate {A = ℕ} most 0))) (λ tells can. record { needs = can; cut = λ c cut. cut }) (λ tells can done. absurd (never tells can))
+      turned_never (stepped_then first.steps (next some (sym (length-replicate {A = ℕ} most 0))).steps (λ tells can. record { needs = can; cut = λ c cut. cut }) (λ tells can done. absurd (never tells can))) never
 
   -- a part more of a write
   pub write_turn : IsPart (body mid.geometry) size at (length bytes) from to → most ≡ from + (size - from) → (nor.tells old.nor.now → CanWrite old.geometry (nor.bytes old.nor.now) id at bytes f → size ≡ length f.bytes) → (known ≡ true → size < from) →
-      Stepped refusing old mid (Ok tt) (writing_to id at from bytes f) → ((e : File) → most ≡ length e.bytes → Stepped refusing mid new r (writing_part id known from (slice_range bytes (from - at) (to - at)) e)) →
-      Stepped refusing old new r (writing_to id at to bytes f)
+      Turned refusing (NeedsNoTail id (length f.bytes) from) (length (ends_to (body old.geometry) (length f.bytes) at (length bytes) from)) old mid (Ok tt) (writing_to id at from bytes f) →
+      ((e : File) → most ≡ length e.bytes → Turned refusing (NeedsNoTail id (length e.bytes) (from + length (slice_range bytes (from - at) (to - at)))) 1 mid new r (writing_part id known from (slice_range bytes (from - at) (to - at)) e)) →
+      Turned refusing (NeedsNoTail id (length f.bytes) to) (length (ends_to (body old.geometry) (length f.bytes) at (length bytes) to)) old new r (writing_to id at to bytes f)
   write_turn part most_is told sure first next = ⊎_elim
       (λ (same : size ≡ length f.bytes). ⊎_elim
       (λ (past : length f.bytes < at). no_turn (λ tells can. let inside = can.from in omega (arith, inside, past)) first next)
       (λ (inside : at ≤ length f.bytes).
-      let here : IsPart (body old.geometry) (length f.bytes) at (length bytes) from to = rw (first.framed.same.geometry, same) at part in
+      let here : IsPart (body old.geometry) (length f.bytes) at (length bytes) from to = rw (first.steps.framed.same.geometry, same) at part in
       let long = long_so_far at from bytes f inside part.low (let some = part.some in let within = part.within in omega (arith, some, within)) in
-      stepped_then first (next (so_far at from bytes f) (omega (arith, most_is, long, same))) (λ tells can. record { needs = can; cut = λ c cut. cut }) (λ tells can done. part_goes old.geometry (nor.bytes old.nor.now) (nor.bytes mid.nor.now) id at from to known bytes f can here done (λ is. let past = sure is in omega (arith, past, same))))
+      let behind : known ≡ true → length f.bytes < from = λ is. let past = sure is in omega (arith, past, same) in
+      turned_then first (next (so_far at from bytes f) (omega (arith, most_is, long, same))) (λ tells can. record { needs = can; cut = λ c cut. cut })
+      (λ tells can done. part_goes old.geometry (nor.bytes old.nor.now) (nor.bytes mid.nor.now) id at from to known bytes f can here done behind)
+      (λ tells can done m n before after. part_few old.geometry (nor.bytes old.nor.now) (nor.bytes mid.nor.now) id at from to known bytes f can here done behind m n before after))
       (cases_lt (length f.bytes) at))
       (λ (other : size ≡ length f.bytes → ⊥). no_turn (λ tells can. other (told tells can)) first next)
       (cases_eq size (length f.bytes))

@@ -1,12 +1,12 @@
 -- One part of a write: pages are had for it, the tail is made ready where bytes are added behind it, and the page step is taken.
-use Rattle.std.proofs.Common.{◌≡◌, ℕ, ◌+◌, ◌==◌, ◌<◌, ◌≤◌, ⊎_elim, inl, inr, List, length, Bool, true, false, refl, sym, ◌∙◌, ap, subst, arith, replicate}
-use Rattle.std.specs.Prelude.{◌↔◌, Some, is_some, Result, Ok}
+use Rattle.std.proofs.Common.{◌≡◌, ℕ, ◌+◌, ◌-◌, ◌/◌, ◌%◌, ◌==◌, ◌<◌, ◌≤◌, ◌&&◌, nat_le, ⊎_elim, inl, inr, List, length, Bool, true, false, refl, sym, ◌∙◌, ap, subst, arith, replicate}
+use Rattle.std.specs.Prelude.{◌↔◌, Some, is_some, Result, Ok, Err, if◌then◌else◌}
 use Rattle.std.proofs.lemmas.Bool.{cases_lt}
 use Rattle.std.proofs.lemmas.List.{length-replicate}
 use Rattle.nor_core.specs.declared.state.NorState.{Ghosts as NorOf}
 use Rattle.table_model.specs.declared.error.FsErr.{FsErr}
 use Rattle.geometry.specs.declared.geometry.Geometry.{Geometry}
-use Rattle.geometry.specs.Numbers.{usable}
+use Rattle.geometry.specs.Numbers.{body, head_slots, span_slots, usable}
 use Rattle.table_model.specs.Table.{File, file_of, has_id, put_file}
 use Rattle.table_model.specs.Files.{written}
 use Rattle.table_model.specs.Room.{data_pages}
@@ -28,7 +28,10 @@ use Rattle.flash_view.specs.Steps.{Step, Errors, Stepped, stopped, Begins, Finis
 use Rattle.flash_view.proofs.Stepped.{ends_as, weaker}
 use Rattle.file_calls.specs.Collecting.{RoomCut, CanTakePages, refusing, taking_pages}
 use Rattle.file_calls.specs.Cuts.{JobCut}
-use Rattle.file_calls.specs.Writings.{CanWritePart, JobDone, CanHaveTail, HasTail, CanNeedTail, writing_part, having_tail, needing_tail}
+use Rattle.file_calls.specs.Cleans.{Taken, IsFew, Turned, NeedsNoTail}
+use Rattle.file_calls.specs.Writings.{CanWritePart, CanHaveTail, HasTail, CanNeedTail, writing_part, having_tail, needing_tail}
+use Rattle.file_calls.proofs.CleansBy.{taken_passes, taken_then}
+use Rattle.file_calls.proofs.TurnsBy.{few_once, turned_once, turned_passes, turned_never, turned_then}
 use Rattle.file_calls.proofs.Going.{tidy_sound}
 use Rattle.file_calls.proofs.Resizing.{written_size}
 use Rattle.file_calls.proofs.PartRoom.{room_beside, room_behind, few_pages}
@@ -116,72 +119,130 @@ known_ready g a id known can is = tail_is_ready g a id can.can (can.ready is)
 pub not_ready : {P A : Type 0} (b : Bool) → (b ≡ true) ↔ P → P → b ≡ false → A
 not_ready b told ready is = let bad : true ≡ false = sym (told.1 ready) ∙ is in absurd (cc)
 
+-- so a tail that is told as not ready takes the one turn
+pub tail_once : {P : Type 0} (b : Bool) → (b ≡ true) ↔ P → b ≡ false → IsFew P 0 1
+tail_once b told is = record { most = omega arith; few = λ ready. not_ready b told ready is }
+
 -- ---- bytes behind the end of a file
-
--- its tail is ready, and the pages of an append are had
-pub record Prepared (g : Geometry) (id size : ℕ) (was now : List ℕ) : Type 0 where
-  pub done : JobDone g (table_of g was) now
-  pub ready : IsTailReady g now id
-  pub had : are_had g now (index_needed g size) 1 ≡ true
-
-abbrev pub preparing : (id : ℕ) → Bool → (at : ℕ) → List ℕ → File → Step (Unit {0})
-preparing id known at bytes f = record {
-  needs = λ g was. CanWritePart g was id known at bytes f;
-  cut = λ g was image. JobCut g (put_file (written at bytes f) (table_of g was)) was image;
-  done = λ g was now ok. Prepared g id at was now;
-}
 
 has_by : (id : ℕ) (files : List File) (f : File) → file_of id files ≡ Some f → has_id id files ≡ true
 unfolding has_id file_of
 has_by id files f there = any-found (λ (x : File). x.id == id) files ∙ ap is_some there
 
+-- the tail is had first, and then they are one part of a write to a file whose tail is known to be ready
 module _ (g : Geometry) (a : List ℕ) (id : ℕ) (known : Bool) (at : ℕ) (bytes : List ℕ) (f : File) (can : CanWritePart g a id known at bytes f) where
-  pub append_begins : Begins g a (needing_tail id known) (preparing id known at bytes f)
+  pub append_begins : Begins g a (needing_tail id known) (writing_part id known at bytes f)
   append_begins = record {
     needs = record { can = record { can = two_pages g a id known at bytes f can; there = has_by id (table_of g a) f can.can.there }; ready = can.ready };
     cut = λ c cut. still_cut g (put_file (written at bytes f) (table_of g a)) a c cut;
   }
 
-  behind : at ≡ length f.bytes → length (written at bytes f).bytes ≡ length f.bytes + length bytes
-  behind end = let long = written_size at bytes f can.can.from in omega (arith, long, end)
-
-  room_for : at ≡ length f.bytes → HasRoomFor g a (index_needed g at) 1
-  room_for end = rw end (room_behind g a id f (written at bytes f) can.can.tidy.undamaged can.can.there refl can.can.room (let long = behind end in let some = can.can.some in omega (arith, long, some)))
-
-  pub append_goes : at ≡ length f.bytes → (mid : List ℕ) → HasTail g id a mid → Finishes g a mid (taking_pages (index_needed g at) 1) (preparing id known at bytes f)
-  append_goes end mid tail = record {
-    needs = record { tidy = tail.done.tidy; reserve = tail.done.reserve; room = rw tail.done.table (room_for end) };
-    cut = λ c cut. later_cut g (put_file (written at bytes f) (table_of g a)) a mid c tail.done.tidy tail.done.table tail.done.reserve (room_cut g (put_file (written at bytes f) (table_of g a)) mid c cut);
-    done = λ c ok made. record {
-      done = record { tidy = made.tidy; table = made.table ∙ tail.done.table; reserve = made.ready.reserve };
-      ready = made.tails id tail.ready;
-      had = made.ready.had;
-    };
-  }
-
-  few_after : at ≡ length f.bytes → data_pages g (length f.bytes + length bytes) ≤ usable g
-  few_after end = subst (λ (n : ℕ). data_pages g n ≤ usable g) (behind end) (few_pages g (table_of g a) (written at bytes f) can.can.room)
-
-  pub append_ends : at ≡ length f.bytes → (mid : List ℕ) → Prepared g id at a mid → Finishes g a mid (appending id bytes f) (writing_part id known at bytes f)
-  append_ends end mid made = record {
+  pub append_goes : (mid : List ℕ) → HasTail g id a mid → Finishes g a mid (writing_part id true at bytes f) (writing_part id known at bytes f)
+  append_goes mid tail = record {
     needs = record {
-      tidy = made.done.tidy;
-      there = rw made.done.table can.can.there;
-      ready = made.ready;
-      some = can.can.some;
-      one_page = rw end at can.one_page;
-      few = few_after end;
-      had = rw end at made.had;
+      can = record { tidy = tail.done.tidy; reserve = tail.done.reserve; there = rw tail.done.table can.can.there; some = can.can.some; from = can.can.from; room = rw tail.done.table can.can.room };
+      one_page = can.one_page;
+      inside = can.inside;
+      ready = λ is. tail.ready;
     };
-    cut = λ c cut. step_cut g (put_file (written at bytes f) (table_of g a)) a mid c made.done.tidy made.done.table made.done.reserve (rw (made.done.table, sym end) at cut);
+    cut = λ c cut. later_cut g (put_file (written at bytes f) (table_of g a)) a mid c tail.done.tidy tail.done.table tail.done.reserve (rw tail.done.table at cut);
     done = λ c ok done. record {
-      tidy = done.step.tidy;
-      table = done.step.table ∙ rw (made.done.table, sym end) refl;
-      reserve = done.step.reserve made.done.reserve;
-      ready = λ past. done.ready;
-      kept = λ ready. done.ready;
+      tidy = done.tidy;
+      table = rw tail.done.table at done.table;
+      reserve = done.reserve;
+      ready = λ past. done.kept tail.ready;
+      kept = λ ready. done.kept tail.ready;
     };
   }
+
+  -- that is a turn more where it isn't ready
+  pub append_few : at ≡ length f.bytes → (m n : ℕ) → IsFew (IsTailReady g a id) 0 m → IsFew (Unit {0}) 1 n → IsFew (NeedsNoTail id (length f.bytes) (at + length bytes) g a) 1 (n + m)
+  append_few end m n first last =
+      let one = last.few tt in
+      record {
+        most = let tail = first.most in omega (arith, one, tail);
+        few = λ no_tail. ⊎_elim
+            (λ (inside : at + length bytes ≤ length f.bytes). let some = can.can.some in absurd (omega (arith, inside, some, end)))
+            (λ (ready : IsTailReady g a id). let none = first.few ready in omega (arith, one, none))
+            no_tail;
+      }
+
+-- pages are had for it, and then the page step is taken
+module _ (g : Geometry) (a : List ℕ) (id at : ℕ) (bytes : List ℕ) (f : File) (can : CanWritePart g a id true at bytes f) (end : at ≡ length f.bytes) where
+  behind : length (written at bytes f).bytes ≡ length f.bytes + length bytes
+  behind = let long = written_size at bytes f can.can.from in omega (arith, long, end)
+
+  room_for : HasRoomFor g a (index_needed g at) 1
+  room_for = rw end (room_behind g a id f (written at bytes f) can.can.tidy.undamaged can.can.there refl can.can.room (let long = behind in let some = can.can.some in omega (arith, long, some)))
+
+  few_after : data_pages g (length f.bytes + length bytes) ≤ usable g
+  few_after = subst (λ (n : ℕ). data_pages g n ≤ usable g) behind (few_pages g (table_of g a) (written at bytes f) can.can.room)
+
+  module _ (count : ℕ) (is : count ≡ index_needed g at) where
+    pub pages_begin : Begins g a (taking_pages count 1) (writing_part id true at bytes f)
+    pages_begin = record {
+      needs = record { tidy = can.can.tidy; reserve = can.can.reserve; room = subst (λ (n : ℕ). HasRoomFor g a n 1) (sym is) room_for };
+      cut = λ c cut. room_cut g (put_file (written at bytes f) (table_of g a)) a c cut;
+    }
+
+    pub pages_end : (mid : List ℕ) → MadeRoom g count 1 a mid → Finishes g a mid (appending id bytes f) (writing_part id true at bytes f)
+    pages_end mid made = record {
+      needs = record {
+        tidy = made.tidy;
+        there = rw made.table can.can.there;
+        ready = made.tails id (can.ready refl);
+        some = can.can.some;
+        one_page = rw end at can.one_page;
+        few = few_after;
+        had = subst (λ (n : ℕ). are_had g mid n 1 ≡ true) (is ∙ ap (index_needed g) end) made.ready.had;
+      };
+      cut = λ c cut. step_cut g (put_file (written at bytes f) (table_of g a)) a mid c made.tidy made.table made.ready.reserve (rw (made.table, sym end) at cut);
+      done = λ c ok done. record {
+        tidy = done.step.tidy;
+        table = done.step.table ∙ rw (made.table, sym end) refl;
+        reserve = done.step.reserve made.ready.reserve;
+        ready = λ past. done.ready;
+        kept = λ ready. done.ready;
+      };
+    }
+
+-- an append needs two index pages at most
+few_index : (two : Bool) → (if two then 2 else 1) ≤ 2
+few_index true = omega arith
+few_index false = omega arith
+
+needed_few : (g : Geometry) (n : ℕ) → index_needed g n ≤ 2
+needed_few g n = few_index ((n % body g == 0) && nat_le (head_slots g) (n / body g) && ((n / body g - head_slots g) % span_slots g == 0))
+
+pages_few : (g : Geometry) (at count : ℕ) → count ≡ index_needed g at → count ≤ 2
+pages_few g at count is = let few = needed_few g at in omega (arith, few, is)
+
+-- over a view
+module _ {N : Type 0} {nor : NorOf N} {old new : View N nor} {r : Result (Unit {0}) FsErr} (id at : ℕ) (bytes : List ℕ) (f : File) (end : at ≡ length f.bytes) (count : ℕ) (is : count ≡ index_needed old.geometry at) where
+  -- no pages were had
+  pub paged_not : {e : FsErr} → Taken refusing count 1 old new (Err e) (taking_pages count 1) → r ≡ Err e → Turned refusing (λ g was. Unit {0}) 1 old new r (writing_part id true at bytes f)
+  paged_not call same = turned_once (pages_few old.geometry at count is) (omega arith) (λ tells can. few_once (omega arith)) (taken_passes call same (λ tells can. pages_begin old.geometry (nor.bytes old.nor.now) id at bytes f can end count is))
+
+  -- .. or they were, and then the page step was taken
+  pub paged_then : {mid : View N nor} {x : Unit {0}} → Taken refusing count 1 old mid (Ok x) (taking_pages count 1) → Stepped refusing mid new r (appending id bytes f) → Turned refusing (λ g was. Unit {0}) 1 old new r (writing_part id true at bytes f)
+  paged_then {mid} call next = turned_once (pages_few old.geometry at count is) (omega arith) (λ tells can. few_once (omega arith))
+      (taken_then (λ g was image cut reserve. cut.reserve reserve) call next
+      (λ tells can. pages_begin old.geometry (nor.bytes old.nor.now) id at bytes f can end count is)
+      (λ tells can made. pages_end old.geometry (nor.bytes old.nor.now) id at bytes f can end count is (nor.bytes mid.nor.now) made))
+
+module _ {N : Type 0} {nor : NorOf N} {old new : View N nor} {r : Result (Unit {0}) FsErr} (id : ℕ) (known : Bool) (at : ℕ) (bytes : List ℕ) (f : File) where
+  -- the tail was not had
+  pub append_not : {e : FsErr} → Turned refusing (λ g was. IsTailReady g was id) 0 old new (Err e) (needing_tail id known) → r ≡ Err e → Turned refusing (NeedsNoTail id (length f.bytes) (at + length bytes)) 1 old new r (writing_part id known at bytes f)
+  append_not call same = turned_passes call same (λ tells can. append_begins old.geometry (nor.bytes old.nor.now) id known at bytes f can)
+      (λ tells can n few. let one = few.most in record { most = omega (arith, one); few = λ no_tail. omega (arith, one) })
+
+  -- .. or it was, and then they were written
+  pub append_then : {mid : View N nor} {x : Unit {0}} → at ≡ length f.bytes → Turned refusing (λ g was. IsTailReady g was id) 0 old mid (Ok x) (needing_tail id known) → Turned refusing (λ g was. Unit {0}) 1 mid new r (writing_part id true at bytes f) →
+      Turned refusing (NeedsNoTail id (length f.bytes) (at + length bytes)) 1 old new r (writing_part id known at bytes f)
+  append_then {mid} end call next = turned_then call next
+      (λ tells can. append_begins old.geometry (nor.bytes old.nor.now) id known at bytes f can)
+      (λ tells can tail. append_goes old.geometry (nor.bytes old.nor.now) id known at bytes f can (nor.bytes mid.nor.now) tail)
+      (λ tells can tail m n first last. append_few old.geometry (nor.bytes old.nor.now) id known at bytes f can end m n first last)
 
 -- ---- a part of a write
 
@@ -192,18 +253,21 @@ no_step call never = weaker call (λ tells need. absurd (never tells need))
 
 -- bytes that begin inside a file end there where they are one part of a write
 pub part_inside : {N : Type 0} {nor : NorOf N} {old new : View N nor} {r : Result (Unit {0}) FsErr} (id : ℕ) (known : Bool) (at : ℕ) (bytes : List ℕ) (f : File) → at < length f.bytes →
-    ((e : File) → at + length bytes ≤ length e.bytes → Stepped refusing old new r (writing_part id known at bytes e)) → Stepped refusing old new r (writing_part id known at bytes f)
+    ((e : File) → at + length bytes ≤ length e.bytes → Taken refusing 1 1 old new r (writing_part id known at bytes e)) → Turned refusing (NeedsNoTail id (length f.bytes) (at + length bytes)) 1 old new r (writing_part id known at bytes f)
 part_inside id known at bytes f low call = ⊎_elim
     (λ (past : length f.bytes < at + length bytes).
     let some : File = record f { bytes = replicate (at + length bytes) 0 } in
-    no_step (call some (let e = length-replicate {A = ℕ} (at + length bytes) 0 in omega (arith, e))) (λ tells can. ⊎_elim (λ (inside : at + length bytes ≤ length f.bytes). omega (arith, inside, past)) (λ (end : at ≡ length f.bytes). omega (arith, end, low)) can.inside))
-    (λ (inside : at + length bytes ≤ length f.bytes). call f inside)
+    let never : (g : Geometry) (was : List ℕ) → CanWritePart g was id known at bytes f → ⊥ = λ g was can. ⊎_elim (λ (inside : at + length bytes ≤ length f.bytes). omega (arith, inside, past)) (λ (end : at ≡ length f.bytes). omega (arith, end, low)) can.inside in
+    turned_never (no_step (call some (let e = length-replicate {A = ℕ} (at + length bytes) 0 in omega (arith, e))).steps (λ tells can. never _ _ can)) (λ tells can. never _ _ can))
+    (λ (inside : at + length bytes ≤ length f.bytes). turned_once (omega arith) (omega arith) (λ tells can. few_once (omega arith)) (call f inside))
     (cases_lt (length f.bytes) (at + length bytes))
 
 -- and others begin at its end
 pub part_behind : {N : Type 0} {nor : NorOf N} {old new : View N nor} {r : Result (Unit {0}) FsErr} (id : ℕ) (known : Bool) (at size : ℕ) (bytes : List ℕ) (f : File) → size ≤ at → size ≡ length f.bytes →
-    Stepped refusing old new r (writing_part id known size bytes f) → Stepped refusing old new r (writing_part id known at bytes f)
+    Turned refusing (NeedsNoTail id (length f.bytes) (size + length bytes)) 1 old new r (writing_part id known size bytes f) → Turned refusing (NeedsNoTail id (length f.bytes) (at + length bytes)) 1 old new r (writing_part id known at bytes f)
 part_behind {nor = nor} {old = old} {new = new} {r = r} id known at size bytes f high is call = ⊎_elim
-    (λ (past : size < at). no_step call (λ tells can. let from = can.can.from in omega (arith, from, past, is)))
-    (λ (within : at ≤ size). let same : size ≡ at = omega (arith, high, within) in subst (λ (n : ℕ). Stepped {nor = nor} refusing old new r (writing_part id known n bytes f)) same call)
+    (λ (past : size < at).
+    let never : (g : Geometry) (was : List ℕ) → CanWritePart g was id known at bytes f → ⊥ = λ g was can. let from = can.can.from in omega (arith, from, past, is) in
+    turned_never (no_step call.steps (λ tells can. never _ _ can)) (λ tells can. never _ _ can))
+    (λ (within : at ≤ size). let same : size ≡ at = omega (arith, high, within) in subst (λ (n : ℕ). Turned {nor = nor} refusing (NeedsNoTail id (length f.bytes) (n + length bytes)) 1 old new r (writing_part id known n bytes f)) same call)
     (cases_lt size at)

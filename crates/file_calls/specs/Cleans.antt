@@ -1,10 +1,16 @@
 -- Which blocks a call cleans for the pages that it takes.
-use Rattle.std.specs.Prelude.{ℕ, List, Result, IsErr}
+use Rattle.std.specs.Prelude.{ℕ, ◌+◌, ◌≤◌, ◌⊎◌, List, [], ◌∷◌, length, replicate, Option, Some, Result, IsErr}
 use Rattle.geometry.specs.declared.geometry.Geometry.{Geometry}
+use Rattle.geometry.specs.Numbers.{body}
 use Rattle.nor_core.specs.declared.state.NorState.{Ghosts as NorOf}
 use Rattle.nor_core.specs.Device.{Changes, OnlyReads}
-use Rattle.table_model.specs.Ask.{Ask, Creates, Opens, Truncates, Renames, SetsMeta, SetsMetaOpen}
+use Rattle.table_model.specs.Table.{File, Open, State}
+use Rattle.table_model.specs.Descriptors.{open_at}
+use Rattle.table_model.specs.Files.{write_place}
+use Rattle.table_model.specs.Ask.{Ask, Creates, Opens, Writes, Fills, Truncates, Renames, SetsMeta, SetsMetaOpen}
+use Rattle.table_model.specs.Steps.{part_ends, open_file}
 use Rattle.image_model.specs.Tidy.{HasReserve}
+use Rattle.renew_laws.specs.Tails.{IsTailReady}
 use Rattle.block_gc.specs.RoomMade.{SweptTo, NoneIs, IsReady}
 use Rattle.flash_view.specs.declared.view.View.{View}
 use Rattle.flash_view.specs.Steps.{Step, Errors, Stepped}
@@ -44,3 +50,49 @@ pub record Taken {N T E : Type 0} {nor : NorOf N} (errors : Errors E) (index pag
   pub steps : Stepped errors old new result step
   pub cleans : nor.tells old.nor.now → step.needs old.geometry (nor.bytes old.nor.now) →
       CleansFor nor old.geometry index pages old.nor.now new.nor.now (IsErr result)
+
+-- ---- writes
+
+-- Only reads between two moments, or turns of cleaning: these are the moments where each turn began, the last one first. A turn cleans for two
+-- index pages and one data page at most, and one that another follows wasn't broken off.
+unfoldable pub TurnsAlong : {D : Type 0} → NorOf D → Geometry → (old new : D) → (broken : Type 0) → List D → Type 0
+TurnsAlong nor g old new broken [] = OnlyReads nor old new
+TurnsAlong nor g old new broken (from ∷ more) = TurnsAlong nor g old from ⊥ more × CleansFor nor g 2 1 from new broken
+
+-- So many turns a write takes: one for each of its parts at most, and one more where a tail is to be made ready. `ready` says that none is.
+pub record IsFew (ready : Type 0) (parts turns : ℕ) : Type 0 where
+  pub most : turns ≤ parts + 1
+  pub few : ready → turns ≤ parts
+
+-- A write of so many parts cleans blocks in turns.
+pub record CleansInTurns {D : Type 0} (nor : NorOf D) (g : Geometry) (ready : Type 0) (parts : ℕ) (old new : D) (broken : Type 0) : Type 0 where
+  pub turns : List D
+  pub along : TurnsAlong nor g old new broken turns
+  pub few : IsFew ready parts (length turns)
+
+-- A call over a view took that step, and cleaned blocks in turns. `ready` says of which images no tail is to be made ready.
+pub record Turned {N T E : Type 0} {nor : NorOf N} (errors : Errors E) (ready : Geometry → List ℕ → Type 0) (parts : ℕ) (old new : View N nor)
+    (result : Result T E) (step : Step T) : Type 0 where
+  pub steps : Stepped errors old new result step
+  pub cleans : nor.tells old.nor.now → step.needs old.geometry (nor.bytes old.nor.now) →
+      CleansInTurns nor old.geometry (ready old.geometry (nor.bytes old.nor.now)) parts old.nor.now new.nor.now (IsErr result)
+
+-- how many parts a write of so many bytes has, at a place of a file of that size: they end where a data page ends, at the file's old end, and at
+-- the end of the write
+abbrev pub part_count : Geometry → (size at len : ℕ) → ℕ
+part_count g size at len = length (part_ends (body g) size at len)
+
+-- A write into the file of an id, of that size, needs no tail made ready: it ends inside the file, or the tail is ready.
+abbrev pub NeedsNoTail : (id size end : ℕ) → Geometry → List ℕ → Type 0
+NeedsNoTail id size end g image = (end ≤ size) ⊎ IsTailReady g image id
+
+-- the same of a write through a descriptor on its file, if there are these
+abbrev pub NeedsNoTailIn : Geometry → List ℕ → Option Open → Option File → List ℕ → Type 0
+NeedsNoTailIn g image (Some d) (Some f) bytes = NeedsNoTail d.id (length f.bytes) (write_place d f + length bytes) g image
+NeedsNoTailIn g image d f bytes = Unit {0}
+
+-- .. and of a call
+abbrev pub WritesNoTail : Geometry → List ℕ → State → Ask → Type 0
+WritesNoTail g image s (Writes fd bytes) = NeedsNoTailIn g image (open_at s.slots fd) (open_file s (open_at s.slots fd)) bytes
+WritesNoTail g image s (Fills fd count byte) = NeedsNoTailIn g image (open_at s.slots fd) (open_file s (open_at s.slots fd)) (replicate count byte)
+WritesNoTail g image s ask = Unit {0}

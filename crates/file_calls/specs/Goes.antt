@@ -27,7 +27,7 @@ use Rattle.file_calls.specs.Replies.{may_answer, is_change, is_write, keeps_slot
 use Rattle.file_calls.specs.Slots.{slots_fault, IsNumbered}
 use Rattle.file_calls.specs.States.{IsImageOf}
 use Rattle.file_calls.specs.Collecting.{IsStuckAt}
-use Rattle.file_calls.specs.Cleans.{index_taken, CleansFor}
+use Rattle.file_calls.specs.Cleans.{index_taken, CleansFor, CleansInTurns, WritesNoTail}
 
 -- What a cut in a call may leave of a volume at a state, on which nothing waits: an image that is sound with respect to the one before,
 -- with the table of the state or of a step of the call. Where two blocks were free it recovers: an uncut check gives two.
@@ -110,6 +110,10 @@ pub record Does {D : Type 0} (nor : NorOf D) (g : Geometry) (ask : Ask) (old new
   -- blocks are cleaned before all else, none where the index page is had that the call takes, and each where it isn't
   pub cleans : (s : State) → IsImageOf nor g old slots s → is_write ask ≡ false → ask ≢ Collects →
       CleansFor nor g (index_taken ask) 0 old new (reply ≡ Refuses DeviceFault)
+  -- a write cleans in turns, one for each step that it publishes at most, and one more where the tail of its file is to be made ready
+  pub turns : (s : State) → IsImageOf nor g old slots s → is_write ask ≡ true →
+      CleansInTurns nor g (WritesNoTail g (nor.bytes old) s ask) (length (steps g (has_spare g (nor.bytes old)) s ask)) old new
+      (reply ≡ Refuses DeviceFault)
 
 -- Where the table of block counts stood, it stands after a call on a volume at a state, unless the device failed.
 abbrev pub StandsOn : {D : Type 0} (nor : NorOf D) (g : Geometry) (old : D) (slots : List FdSlot) (reply : Answer) (stood stands : Bool) → Type 0

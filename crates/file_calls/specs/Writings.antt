@@ -1,5 +1,5 @@
 -- Files that get bytes.
-use Rattle.std.specs.Prelude.{◌≡◌, ◌⊎◌, ℕ, ◌+◌, ◌%◌, ◌<◌, ◌≤◌, List, ◌∷◌, length, Bool, true, false, Some, Result, IsErrOf, IfErr, OnOk, MatchResult}
+use Rattle.std.specs.Prelude.{◌≡◌, ◌⊎◌, ℕ, ◌+◌, ◌%◌, ◌<◌, ◌≤◌, List, ◌∷◌, length, Bool, true, false, Some, Result, IsErr, IsErrOf, IfErr, OnOk, MatchResult}
 use Rattle.nor_core.specs.declared.state.NorState.{Ghosts as NorOf}
 use Rattle.nor_core.specs.Count.{Rose}
 use Rattle.nor_core.specs.Device.{Changes, OnlyReads}
@@ -21,6 +21,7 @@ use Rattle.trim_laws.specs.Upkeep.{Upkeep}
 use Rattle.flash_view.specs.Steps.{Step}
 use Rattle.file_calls.specs.Cuts.{JobCut}
 use Rattle.file_calls.specs.Collecting.{CanTakePages, MayStop}
+use Rattle.file_calls.specs.Cleans.{CleansInTurns, NeedsNoTail, part_count}
 
 -- Bytes can be written: the image is tidy with its reserve, its table has this file under the id, they are some and begin inside it or at
 -- its end, and the table after them has room.
@@ -114,3 +115,6 @@ pub record WritesOn {D : Type 0} (nor : NorOf D) (g : Geometry) (id at : ℕ) (b
   pub counted : nor.tells old → CanWrite g (nor.bytes old) id at bytes f → stood ≡ true → OnOk result (stands ≡ true)
   pub ends : nor.tells old → CanWrite g (nor.bytes old) id at bytes f →
       MatchResult result (λ ok. WriteDone g id at bytes f (nor.bytes old) (nor.bytes new)) (λ why. why ≡ DeviceFault)
+  pub turns : nor.tells old → CanWrite g (nor.bytes old) id at bytes f →
+      CleansInTurns nor g (NeedsNoTail id (length f.bytes) (at + length bytes) g (nor.bytes old)) (part_count g (length f.bytes) at (length bytes)) old new
+      (IsErr result)

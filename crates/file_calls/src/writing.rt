@@ -4,10 +4,11 @@ ghost use Rattle.table_model.specs.Table.{File};
 ghost use Rattle.geometry.specs.Numbers.{body};
 ghost use Rattle.call_model.specs.Parts.{IsPartEnd};
 ghost use Rattle.flash_view.specs.Same.{OnlyLooks};
-ghost use Rattle.flash_view.specs.Steps.{Stepped};
 ghost use Rattle.file_calls.specs.Collecting.{refusing};
+ghost use Rattle.file_calls.specs.Cleans.{Taken, Turned, NeedsNoTail, part_count};
 ghost use Rattle.file_write.specs.Appends.{index_needed as the_index_needed};
 ghost use Rattle.file_write.specs.Readyings.{HasReadyTail};
+ghost use Rattle.renew_laws.specs.Tails.{IsTailReady};
 ghost use Rattle.file_calls.specs.Writings.{CanWrite, writing_part, writing, having_tail, needing_tail};
 
 use crate::collecting::take_pages;
@@ -22,7 +23,8 @@ use table_model::FsErr;
 
 // Overwrites bytes of a file inside one data page, once pages are had.
 fn overwrite_part<N: Nor>(v: &mut View<'_, N>, id: u16, at: u32, bytes: &[u8]) -> Result<(), FsErr>
-    ensures { (known : Bool) (f : File) → at + length bytes.now ≤ length f.bytes → Stepped refusing v.old v.new result (writing_part id known at bytes.now f) }
+    ensures { (known : Bool) (f : File) → at + length bytes.now ≤ length f.bytes →
+        Taken refusing 1 1 v.old v.new result (writing_part id known at bytes.now f) }
 {
     take_pages(v, 1, 1)?;
     match overwrite_step(v, id, at, bytes) {
@@ -48,7 +50,7 @@ fn index_needed(g: &Geometry, size: u32) -> u32
 
 // Makes the tail of a file ready for an append, where it isn't ready.
 fn have_tail<N: Nor>(v: &mut View<'_, N>, id: u16) -> Result<(), FsErr>
-    ensures steps { Stepped refusing v.old v.new result (having_tail id) }
+    ensures steps { Turned refusing (λ g was. IsTailReady g was id) 0 v.old v.new result (having_tail id) }
     ensures still { N.tells v.old.nor.now → HasReadyTail v.old.geometry (N.bytes v.old.nor.now) id → OnlyLooks v.old v.new }
 {
     match is_tail_ready(v, id) {
@@ -65,7 +67,7 @@ fn have_tail<N: Nor>(v: &mut View<'_, N>, id: u16) -> Result<(), FsErr>
 
 // The same, where it isn't known to be ready.
 fn need_tail<N: Nor>(v: &mut View<'_, N>, id: u16, known: bool) -> Result<(), FsErr>
-    ensures { Stepped refusing v.old v.new result (needing_tail id known) }
+    ensures { Turned refusing (λ g was. IsTailReady g was id) 0 v.old v.new result (needing_tail id known) }
 {
     if known {
         return Ok(());
@@ -82,7 +84,8 @@ fn append_part<N: Nor>(
     size: u32,
     bytes: &[u8],
 ) -> Result<(), FsErr>
-    ensures { (f : File) → size ≡ length f.bytes → Stepped refusing v.old v.new result (writing_part id known size bytes.now f) }
+    ensures { (f : File) → size ≡ length f.bytes →
+        Turned refusing (NeedsNoTail id (length f.bytes) (size + length bytes.now)) 1 v.old v.new result (writing_part id known size bytes.now f) }
 {
     let g = v.geometry;
     need_tail(v, id, known)?;
@@ -102,7 +105,8 @@ fn write_part<N: Nor>(
     at: u32,
     bytes: &[u8],
 ) -> Result<(), FsErr>
-    ensures { (f : File) → size ≡ length f.bytes → Stepped refusing v.old v.new result (writing_part id known at bytes.now f) }
+    ensures { (f : File) → size ≡ length f.bytes →
+        Turned refusing (NeedsNoTail id (length f.bytes) (at + length bytes.now)) 1 v.old v.new result (writing_part id known at bytes.now f) }
 {
     if at < size {
         overwrite_part(v, id, at, bytes)
@@ -148,7 +152,8 @@ pub fn write_sized<N: Nor>(
     bytes: &[u8],
 ) -> Result<(), FsErr>
     ensures { (f : File) → (N.tells v.old.nor.now → CanWrite v.old.geometry (N.bytes v.old.nor.now) id at bytes.now f → size ≡ length f.bytes) →
-        Stepped refusing v.old v.new result (writing id at bytes.now f) }
+        Turned refusing (NeedsNoTail id (length f.bytes) (at + length bytes.now)) (part_count v.old.geometry (length f.bytes) at (length bytes.now))
+        v.old v.new result (writing id at bytes.now f) }
 {
     let Some(end) = end_of(at, bytes.len()) else {
         return Err(FsErr::Damaged(no_header(id)));
@@ -165,7 +170,9 @@ pub fn write_sized<N: Nor>(
 
 /// Writes bytes into a file as `write_sized` does, once its size is looked up.
 pub fn write_all<N: Nor>(v: &mut View<'_, N>, id: u16, at: u32, bytes: &[u8]) -> Result<(), FsErr>
-    ensures { (f : File) → Stepped refusing v.old v.new result (writing id at bytes.now f) }
+    ensures { (f : File) →
+        Turned refusing (NeedsNoTail id (length f.bytes) (at + length bytes.now)) (part_count v.old.geometry (length f.bytes) at (length bytes.now))
+        v.old v.new result (writing id at bytes.now f) }
 {
     let size = record_of(v, id)?.size;
     write_sized(v, id, size, at, bytes)

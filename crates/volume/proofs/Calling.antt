@@ -56,7 +56,7 @@ use Rattle.ix_map.specs.Maps.{no_map}
 use Rattle.volume.specs.Mapping.{RefillsTo}
 use Rattle.volume.specs.Calls.{HasRun, HasNone, Calls}
 use Rattle.volume.proofs.KnownMaps.{keeps_none, keeps_broken, keeps_refilled}
-use Rattle.file_calls.specs.Cleans.{index_taken, CleansFor}
+use Rattle.file_calls.specs.Cleans.{index_taken, CleansFor, CleansInTurns, WritesNoTail}
 use Rattle.file_calls.proofs.CleansBy.{cleans_reads}
 use Rattle.file_calls.proofs.Going.{refuses_same, room_stays}
 use Rattle.volume.proofs.Staying.{same_then, same_none}
@@ -263,6 +263,7 @@ module _ {N : Type 0} {nor : NorOf N} where
         looks = λ look none. (reads_none v.nor.now, refl);
         keeps = λ keeps. refl;
         cleans = λ m takes. absurd (never takes);
+        turns = λ m takes. absurd (never takes);
         still = λ refusal. refl;
         begins = λ none run. (reads_none v.nor.now, refl);
         empty = λ refusal none. none;
@@ -305,6 +306,7 @@ module _ {N : Type 0} {nor : NorOf N} where
         looks = λ look none. absurd (some none);
         keeps = λ keeps. settles.slots;
         cleans = λ m takes none. absurd (some none);
+        turns = λ m takes none. absurd (some none);
         still = λ refusal. settles.slots;
         begins = λ none run. absurd (some none);
         empty = λ refusal none. absurd (some none);
@@ -509,6 +511,9 @@ module _ {N : Type 0} {nor : NorOf N} where
       looks = λ look none. let unwritten = acts.does.looks look in (only_reads none unwritten, stage_stays (no_run none) unwritten);
       keeps = λ keeps. acts.does.keeps keeps ∙ settles.slots;
       cleans = λ m takes none here write other. subst (λ (v : Volume N nor). CleansFor nor old.geometry (index_taken ask) 0 v.nor.now new.nor.now (reply ≡ Refuses DeviceFault)) (settles.idle none).1 (acts.does.cleans m.state (image_mid m here) write other);
+      turns = λ m takes none here write.
+          let d : Volume N nor → Type 0 = λ v. CleansInTurns nor old.geometry (WritesNoTail old.geometry (nor.bytes v.nor.now) m.state ask) (length (steps old.geometry (has_spare old.geometry (nor.bytes v.nor.now)) m.state ask)) v.nor.now new.nor.now (reply ≡ Refuses DeviceFault) in
+          subst d (settles.idle none).1 (acts.does.turns m.state (image_mid m here) write);
       still = λ refusal. acts.does.still refusal ∙ settles.slots;
       begins = λ none run. let unwritten = acts.waits run in (only_reads none unwritten, stage_stays (no_run none) unwritten);
       empty = λ refusal none. acts.empty refusal;
@@ -553,6 +558,7 @@ module _ {N : Type 0} {nor : NorOf N} where
         looks = λ look none. (reads_none v.nor.now, refl);
         keeps = λ keeps. refl;
         cleans = λ m takes none here write other. cleans_reads (room_stays v.geometry a here.image.tidy) (reads_none v.nor.now);
+        turns = λ m takes none here write. absurd (let no : false ≡ true = write in cc);
         still = λ refusal. refl;
         begins = λ none run. (reads_none v.nor.now, refl);
         empty = λ refusal none. none;
@@ -623,6 +629,10 @@ module _ {N : Type 0} {nor : NorOf N} where
         looks = calls.looks;
         keeps = calls.keeps;
         cleans = λ m takes none here write. absurd (let no : true ≡ false = write in cc);
+        turns = λ m takes none here write.
+            let f = fills-as_writes g spare m fd count byte in
+            let d : List (List File) → Type 0 = λ all. CleansInTurns nor g (WritesNoTail g was m.state (Writes fd (replicate count byte))) (length all) old.nor.now new.nor.now (reply ≡ Refuses DeviceFault) in
+            subst d (sym f.steps_are) (calls.turns m takes none here refl);
         still = calls.still;
         begins = calls.begins;
         empty = calls.empty;

@@ -323,6 +323,7 @@ module _ {N : Type 0} {nor : NorOf N} where
         looks = λ look. absurd (let no : true ≡ false = look in cc);
         keeps = λ keeps. absurd (let no : false ≡ true = keeps in cc);
         cleans = λ m takes none. absurd (busy none);
+        turns = λ m takes none. absurd (busy none);
         still = λ refusal. absurd (let no : false ≡ true = refusal in cc);
         begins = λ none. absurd (busy none);
         empty = λ refusal none. absurd (busy none);

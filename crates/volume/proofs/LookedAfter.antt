@@ -24,6 +24,7 @@ use Rattle.block_gc.specs.RoomMade.{IsReady}
 use Rattle.file_calls.specs.States.{IsImageOf}
 use Rattle.file_calls.specs.Goes.{Does, IsCollected}
 use Rattle.file_calls.proofs.CleansBy.{cleans_read}
+use Rattle.file_calls.proofs.TurnsBy.{turns_read}
 use Rattle.file_calls.specs.Writings.{WriteDone, WritesOn}
 use Rattle.image_model.specs.Sound.{IsSound}
 use Rattle.table_model.specs.Window.{settled_at}
@@ -67,6 +68,7 @@ module _ {D : Type 0} {nor : NorOf D} {g : Geometry} {mid new : D} (reads : Only
       numbered = did.numbered;
       looks = did.looks;
       cleans = λ s here write other. cleans_read (did.cleans s here write other) reads;
+      turns = λ s here write. turns_read (did.turns s here write) reads;
     }
 
     -- a call after which the device is only read
@@ -95,6 +97,7 @@ module _ {D : Type 0} {nor : NorOf D} {g : Geometry} {mid new : D} (reads : Only
     upkeep = read_after did.upkeep reads;
     counted = did.counted;
     ends = λ tells can. subst (λ (l : List ℕ). MatchResult result (λ ok. WriteDone g id at bytes f (nor.bytes old) l) (λ why. why ≡ DeviceFault)) (sym reads.bytes) (did.ends tells can);
+    turns = λ tells can. turns_read (did.turns tells can) reads;
   }
 
 -- what waited was put onto the chip, and then the device was only read
@@ -118,4 +121,5 @@ settles_read {N} {nor} {old} {mid} {new} had was reads same slots run stage coun
         subst (λ (k : Geometry). Stands nor k new.nor.now (memory new) (settled_at m.state)) g (subst (λ (x : Memory). Stands nor mid.geometry new.nor.now x (settled_at m.state)) memories (stands_on reads w.0)),
         record { sound = λ magics. subst (λ (l : List ℕ). IsSound old.geometry l (nor.bytes old.nor.now)) (sym reads.bytes) (w.1.sound magics); reserve = λ reserve. subst (λ (l : List ℕ). HasReserve old.geometry l) (sym reads.bytes) (w.1.reserve reserve) },
       );
+  turns = λ m r f here run is. turns_read (was.turns m r f here run is) reads;
 }

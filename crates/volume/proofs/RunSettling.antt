@@ -1,6 +1,6 @@
 -- The bytes that wait are put onto the chip.
 use Rattle.std.proofs.Common.{◌≡◌, ℕ, ◌≤◌, length, take, ◌⊎◌, ⊎_elim, inl, inr, List, [], ◌∷◌, Bool, true, false, refl, sym, ◌∙◌, ap, subst}
-use Rattle.std.specs.Prelude.{◌≢◌, unwrap_or, Option, Some, None, Result, Ok, Err, IsOk, IfErr}
+use Rattle.std.specs.Prelude.{◌≢◌, ◌+◌, unwrap_or, Option, Some, None, Result, Ok, Err, IsOk, IsErr, IfErr}
 use Rattle.std.specs.Option.{is_some}
 use Rattle.std.proofs.lemmas.Bool.{cases_Bool}
 use Rattle.geometry.specs.declared.geometry.Geometry.{Geometry}
@@ -27,7 +27,6 @@ use Rattle.write_window.specs.Runs.{Run}
 use Rattle.trim_laws.specs.Upkeep.{Upkeep}
 use Rattle.trim_laws.proofs.Wears.{upkeep_none}
 use Rattle.flash_view.specs.declared.view.View.{View}
-use Rattle.flash_view.specs.Steps.{Stepped}
 use Rattle.call_model.specs.Safe.{IsSafe}
 use Rattle.call_model.specs.Memory.{Memory, Waits, RunWaits, IsAt}
 use Rattle.call_model.proofs.Safety.{holds_itself, safe_as, safe_of_tidy}
@@ -39,6 +38,8 @@ use Rattle.volume.specs.Stages.{takes_calls, has_failed}
 use Rattle.volume.specs.Same.{IsSameVolume}
 use Rattle.volume.specs.Replies.{breaks, may_settle}
 use Rattle.file_calls.specs.Collecting.{MayStop, refusing}
+use Rattle.file_calls.specs.Cleans.{CleansInTurns, Turned, NeedsNoTail, part_count}
+use Rattle.file_calls.proofs.TurnsBy.{turns_as}
 use Rattle.volume.specs.Holds.{memory, Holds}
 use Rattle.file_calls.specs.Writings.{CanWrite, WriteCut, WriteDone, WritesOn, writing}
 use Rattle.volume.specs.Settles.{Settles, SettledOr, without_had}
@@ -72,6 +73,10 @@ module _ (g : Geometry) (was : List ℕ) (memory : Memory) (m : Moment) (r : Run
 
   settled_there : file_of r.id m.settled ≡ Some (file_in g was r.id)
   settled_there = ap (λ (t : List File). file_of r.id t) (sym at.table) ∙ there_in
+
+  -- that file is the one of its id
+  pub same_file : (f : File) → file_of r.id m.settled ≡ Some f → file_in g was r.id ≡ f
+  same_file f is = let same : Some (file_in g was r.id) ≡ Some f = sym settled_there ∙ is in cc
 
   -- the state's table is that of the image with the run's bytes
   written_is : m.state.table ≡ put_file (written r.start r.bytes (file_in g was r.id)) (table_of g was)
@@ -131,9 +136,9 @@ any_file = empty_file 0
 
 module _ {N : Type 0} {nor : NorOf N} where
   -- a write over a view, as one on its device
-  pub writes_on : {id at : ℕ} {bytes : List ℕ} {f : File} {old new : View N nor} {result : Result (Unit {0}) FsErr} → Stepped refusing old new result (writing id at bytes f) → old.wrote ≡ false →
+  pub writes_on : {id at : ℕ} {bytes : List ℕ} {f : File} {old new : View N nor} {result : Result (Unit {0}) FsErr} → Turned refusing (NeedsNoTail id (length f.bytes) (at + length bytes)) (part_count old.geometry (length f.bytes) at (length bytes)) old new result (writing id at bytes f) → old.wrote ≡ false →
       WritesOn nor old.geometry id at bytes f old.nor.now new.nor.now new.wrote old.counted new.counted result
-  writes_on step fresh = record { untouched = step.framed.untouched fresh; cause = step.cause; means = step.means; cuts = step.cuts; upkeep = step.upkeep; counted = step.stands; ends = step.ends }
+  writes_on call fresh = let step = call.steps in record { untouched = step.framed.untouched fresh; cause = step.cause; means = step.means; cuts = step.cuts; upkeep = step.upkeep; counted = step.stands; ends = step.ends; turns = call.cleans }
 
   -- nothing waits
   pub settles_none : (v : Volume N nor) → (memory v).run ≡ None → Settles v v (Ok false)
@@ -153,6 +158,7 @@ module _ {N : Type 0} {nor : NorOf N} where
         stands = λ m here.
             let still : m ≡ settled_at m.state = subst (λ (o : Option Run). RunWaits g a m o) none here.image.run in
             (subst (λ (j : Moment). Holds v j) still here, holds_itself g a);
+        turns = λ m r f here run. absurd (let no : None ≡ Some r = sym none ∙ run in cc);
       }
 
   waits_not : (old : Volume N nor) (r : Run) → (memory old).run ≡ Some r → (memory old).run ≡ None → ⊥
@@ -172,6 +178,19 @@ module _ {N : Type 0} {nor : NorOf N} where
       let g = old.geometry in
       let was = nor.bytes old.nor.now in
       wider (writes (file_in g was r.id)).upkeep (λ tells image kept m at. kept (can_write g was (memory old) m r run at))
+
+  -- the turns in which blocks are cleaned for it
+  settling_turns : (old new : Volume N nor) (r : Run) (run : (memory old).run ≡ Some r) (wrote : Bool) (result : Result (Unit {0}) FsErr) → ((f : File) → WritesOn nor old.geometry r.id r.start r.bytes f old.nor.now new.nor.now wrote old.counted new.counted result) →
+      (m : Moment) (q : Run) (f : File) → Holds old m → (memory old).run ≡ Some q → file_of q.id m.settled ≡ Some f →
+      CleansInTurns nor old.geometry (NeedsNoTail q.id (length f.bytes) (q.start + length q.bytes) old.geometry (nor.bytes old.nor.now)) (part_count old.geometry (length f.bytes) q.start (length q.bytes)) old.nor.now new.nor.now (IsErr result)
+  settling_turns old new r run wrote result writes m q f here waits is =
+      let g = old.geometry in
+      let was = nor.bytes old.nor.now in
+      let both : Some r ≡ Some q = sym run ∙ waits in
+      let same : r ≡ q = cc in
+      let of_file : Run → File → Type 0 = λ x y. CleansInTurns nor g (NeedsNoTail x.id (length y.bytes) (x.start + length x.bytes) g was) (part_count g (length y.bytes) x.start (length x.bytes)) old.nor.now new.nor.now (IsErr result) in
+      subst (λ (x : Run). file_of x.id m.settled ≡ Some f → of_file x f) same
+      (λ there. subst (λ (y : File). of_file r y) (same_file g was (memory old) m r run here.image f there) ((writes (file_in g was r.id)).turns here.tells (can_write g was (memory old) m r run here.image))) is
 
   -- a volume stands where all is settled, by its image
   pub settled_now : (old new : Volume N nor) (s : State) → IsSameVolume old new → new.slots.now ≡ old.slots.now → (memory new).run ≡ None → nor.tells new.nor.now →
@@ -206,6 +225,7 @@ module _ {N : Type 0} {nor : NorOf N} where
                 settled_now old new m.state same slots none ((writes f).cuts.cuts.told here.tells) image,
                 record { sound = λ magics. ((writes f).cuts.now here.tells can).sound; reserve = λ reserve. done.reserve },
               );
+          turns = λ m q f here waits is. turns_as (λ e. absurd (let no : false ≡ true = e in cc)) (λ n few. few) (settling_turns old new r run wrote (Ok tt) writes m q f here waits is);
         }
 
     -- it isn't
@@ -243,6 +263,7 @@ module _ {N : Type 0} {nor : NorOf N} where
           };
           idle = λ e. absurd (waits_not old r run e);
           stands = λ m here. (writes f).ends here.tells (can_write g was (memory old) m r run here.image);
+          turns = settling_turns old new r run wrote (Err why) writes;
         }
 
   -- ---- unmounting

@@ -19,7 +19,7 @@ use Rattle.table_model.specs.Calls.{answer_write, write_into}
 use Rattle.table_model.specs.Reply.{Tells as Number}
 use Rattle.table_model.specs.Ask.{Writes}
 use Rattle.table_model.specs.Flat.{answer}
-use Rattle.table_model.specs.Steps.{is_refusal, file_steps}
+use Rattle.table_model.specs.Steps.{is_refusal, open_file, file_steps, steps}
 use Rattle.table_model.specs.Window.{Moment, settled_at, after, page_end, IsAmong}
 use Rattle.image_model.specs.Tables.{table_of}
 use Rattle.image_model.specs.Tidy.{IsTidy, free_blocks, HasReserve, has_spare}
@@ -43,10 +43,13 @@ use Rattle.file_calls.specs.Replies.{MeetsPage, may_meet}
 use Rattle.file_calls.specs.States.{IsImageOf}
 use Rattle.file_calls.specs.Refusals.{IsResized}
 use Rattle.file_calls.specs.Collecting.{refusing}
+use Rattle.file_calls.specs.Cleans.{Turned, part_count, NeedsNoTail}
 use Rattle.volume.specs.Acts.{ActsQuietly}
 use Rattle.file_calls.specs.Writings.{writing}
 use Rattle.file_calls.proofs.Numbered.{numbered_fine, write_fine}
-use Rattle.file_calls.proofs.Going.{IsStep, is_flat, reads_cuts, reads_upkeep, names_by}
+use Rattle.file_calls.proofs.Going.{IsStep, IsTurned, is_flat, reads_cuts, reads_upkeep, names_by}
+use Rattle.file_calls.proofs.TurnsBy.{turns_none, turned_as}
+use Rattle.file_calls.proofs.WriteLoop.{steps_count}
 use Rattle.volume.proofs.Acting.{EndsSettled}
 use Rattle.file_calls.proofs.Descriptors.{open_in, file_at}
 use Rattle.file_calls.proofs.Cutting.{TellsRoom}
@@ -219,6 +222,21 @@ module _ {D : Type 0} {nor : NorOf D} {g : Geometry} {old : D} {slots : List FdS
               };
         }
 
+        -- and each of them cleans in its turns
+        pub write_turns : {k : Geometry} → k ≡ g → IsTurned nor g (NeedsNoTail slot.id (length f.bytes) (place + length bytes)) (part_count k (length f.bytes) place (length bytes)) old slots (Writes fd bytes)
+        unfolding open_file
+        write_turns {k} same = record {
+          no_tail = λ s here none.
+              let w = is_write s here in
+              subst (λ (n : ℕ). NeedsNoTail slot.id (length f.bytes) (n + length bytes) g (nor.bytes old)) (sym (at_place s here)) (rw (w.descriptor, w.file) at none);
+          published = λ s here.
+              let here_is : part_count k (length f.bytes) place (length bytes) ≡ part_count g (length f.bytes) (write_place (opened slot) f) (length bytes) =
+              ap (λ (h : Geometry). part_count h (length f.bytes) place (length bytes)) same ∙ ap (λ (n : ℕ). part_count g (length f.bytes) n (length bytes)) (at_place s here) in
+              let all : length (steps g (has_spare g (nor.bytes old)) s (Writes fd bytes)) ≡ part_count g (length f.bytes) (write_place (opened slot) f) (length bytes) =
+              ap (λ (l : List (List File)). length l) (done s here).steps_are ∙ steps_count g (write_place (opened slot) f) bytes f s.table in
+              subst (λ (n : ℕ). part_count k (length f.bytes) place (length bytes) ≤ n) (here_is ∙ sym all) (omega arith);
+        }
+
         -- what may not wait leaves nothing waiting
         pub direct_ends : (not (is_direct slot.flags) && nat_le (place + length bytes) (page_end g place)) ≡ false → (s : State) → IsImageOf nor g old slots s → EndsSettled g (has_spare g (nor.bytes old)) s (Writes fd bytes)
         unfolding settled_at
@@ -276,6 +294,7 @@ module _ {D : Type 0} {nor : NorOf D} {g : Geometry} {old : D} {slots : List FdS
                 numbered = numbered_fine g slots (Writes fd bytes) (Number (length bytes)) wrote (write_fine (opened slot) at may) (λ why of e. cc);
                 looks = λ look. none;
                 cleans = λ s here write. absurd (let no : true ≡ false = write in cc);
+                turns = λ s here write. turns_none reads;
               };
               answers = λ s here no_fault whole. record {
                 reply_is = sym (ap (λ (o : Outcome). o.answer) (done s here).answer_is);
@@ -293,6 +312,9 @@ module _ {D : Type 0} {nor : NorOf D} {g : Geometry} {old : D} {slots : List FdS
 module _ {N : Type 0} {nor : NorOf N} {old new : View N nor} {step : Step (Unit {0})} where
   pub ends_whole : Stepped refusing old new (Ok tt) step → Stepped stopped old new (Ok tt) step
   ends_whole call = ends_as call (λ tells need. record { needs = need; cut = λ c cut. cut }) (λ tells need done. done)
+
+  pub turned_whole : {ready : Geometry → List ℕ → Type 0} {parts : ℕ} → Turned refusing ready parts old new (Ok tt) step → Turned stopped ready parts old new (Ok tt) step
+  turned_whole call = turned_as call (ends_whole call.steps) (λ tells need. need) (λ tells need n few. few) (λ e. e)
 
 -- ---- where bytes wait
 

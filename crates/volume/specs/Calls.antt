@@ -1,5 +1,5 @@
 -- What a call does to a volume, by the flat table: the contract of every file call.
-use Rattle.std.specs.Prelude.{◌≡◌, ◌≢◌, ◌⊎◌, ℕ, List, true, false, Some, None}
+use Rattle.std.specs.Prelude.{◌≡◌, ◌≢◌, ◌⊎◌, ℕ, List, length, true, false, Some, None}
 use Rattle.std.specs.Option.{is_some}
 use Rattle.nor_core.specs.declared.state.NorState.{Ghosts as NorOf}
 use Rattle.nor_core.specs.Count.{Rose}
@@ -9,9 +9,9 @@ use Rattle.table_model.specs.declared.error.FsErr.TheVariants.{Failed, DeviceFau
 use Rattle.table_model.specs.declared.error.Differ.{Differ}
 use Rattle.table_model.specs.Reply.{Answer, Fine, Gives, Refuses}
 use Rattle.table_model.specs.Ask.{Ask, Collects}
-use Rattle.table_model.specs.Steps.{is_refusal}
+use Rattle.table_model.specs.Steps.{is_refusal, steps}
 use Rattle.table_model.specs.Window.{Moment, settled_at, leaves_window, incoming_of, continues}
-use Rattle.image_model.specs.Tidy.{HasReserve}
+use Rattle.image_model.specs.Tidy.{HasReserve, has_spare}
 use Rattle.image_model.specs.Collect.{chosen_block}
 use Rattle.trim_laws.specs.Upkeep.{Upkeep}
 use Rattle.block_gc.specs.RoomMade.{IsReady}
@@ -23,7 +23,7 @@ use Rattle.volume.specs.Same.{IsSameVolume}
 use Rattle.fd_table.specs.Slots.{descriptors}
 use Rattle.file_calls.specs.Replies.{is_of_slots, may_answer, is_change, is_write, keeps_slots}
 use Rattle.file_calls.specs.Slots.{slots_fault}
-use Rattle.file_calls.specs.Cleans.{index_taken, CleansFor}
+use Rattle.file_calls.specs.Cleans.{index_taken, CleansFor, CleansInTurns, WritesNoTail}
 use Rattle.volume.specs.Replies.{may_settle, breaks}
 use Rattle.volume.specs.Holds.{memory, Holds}
 use Rattle.volume.specs.Mapping.{KeepsMap}
@@ -110,6 +110,10 @@ module _ {N : Type 0} {nor : NorOf N} where
     -- where nothing waits, blocks are cleaned before all else: none where the index page is had that the call takes, and each where it isn't
     pub cleans : (m : Moment) → takes_calls old ≡ true → HasNone old → Holds old m → is_write ask ≡ false → ask ≢ Collects →
         CleansFor nor old.geometry (index_taken ask) 0 old.nor.now new.nor.now (reply ≡ Refuses DeviceFault)
+    -- and a write cleans in turns, one for each step that it publishes at most, and one more where the tail of its file is to be made ready
+    pub turns : (m : Moment) → takes_calls old ≡ true → HasNone old → Holds old m → is_write ask ≡ true →
+        CleansInTurns nor old.geometry (WritesNoTail old.geometry (nor.bytes old.nor.now) m.state ask)
+        (length (steps old.geometry (has_spare old.geometry (nor.bytes old.nor.now)) m.state ask)) old.nor.now new.nor.now (reply ≡ Refuses DeviceFault)
     -- refused, or where the device failed, the descriptors stay
     pub still : is_refusal reply ≡ true → new.slots.now ≡ old.slots.now
     -- a write whose bytes begin to wait asks for no program and no erase

@@ -1,5 +1,5 @@
 -- How the bytes that wait are put onto the chip.
-use Rattle.std.specs.Prelude.{◌≡◌, ◌≢◌, ◌⊎◌, [], Bool, true, false, None, Result, Ok, Err, IfOk, IfErr, OnOk, MatchResult}
+use Rattle.std.specs.Prelude.{◌≡◌, ◌≢◌, ◌⊎◌, ◌+◌, [], length, Bool, true, false, Some, None, Result, Ok, Err, IsErr, IfOk, IfErr, OnOk, MatchResult}
 use Rattle.std.specs.Option.{is_some}
 use Rattle.nor_core.specs.declared.state.NorState.{Ghosts as NorOf}
 use Rattle.nor_core.specs.Count.{Rose}
@@ -7,12 +7,15 @@ use Rattle.nor_core.specs.Device.{Changes}
 use Rattle.table_model.specs.declared.error.FsErr.{FsErr}
 use Rattle.table_model.specs.declared.error.FsErr.TheVariants.{DeviceFault, Damaged}
 use Rattle.table_model.specs.declared.error.Differ.{Differ}
+use Rattle.table_model.specs.Table.{File, file_of}
 use Rattle.table_model.specs.Reply.{Refuses}
 use Rattle.table_model.specs.Window.{Moment, settled_at, from_settled, IsAmong}
 use Rattle.image_model.specs.Tables.{table_of}
 use Rattle.call_model.specs.Safe.{IsSafe, Holds as HoldsImage}
 use Rattle.call_model.specs.Memory.{IsAt}
 use Rattle.trim_laws.specs.Upkeep.{Upkeep}
+use Rattle.write_window.specs.Runs.{Run}
+use Rattle.file_calls.specs.Cleans.{CleansInTurns, NeedsNoTail, part_count}
 use Rattle.volume.specs.declared.volume.Volume.{Volume}
 use Rattle.volume.specs.Stages.{takes_calls, has_failed}
 use Rattle.volume.specs.Same.{IsSameVolume}
@@ -56,6 +59,11 @@ module _ {N : Type 0} {nor : NorOf N} where
     pub stands : (m : Moment) → Holds old m →
         MatchResult result (λ had. Holds new (settled_at m.state) × HoldsImage old.geometry (nor.bytes old.nor.now) (nor.bytes new.nor.now))
         (λ why. why ≡ DeviceFault)
+    -- blocks are cleaned in turns, as for a write of the bytes into their file: one for each part at most, and one more where its tail is to be made
+    -- ready
+    pub turns : (m : Moment) (r : Run) (f : File) → Holds old m → (memory old).run ≡ Some r → file_of r.id m.settled ≡ Some f →
+        CleansInTurns nor old.geometry (NeedsNoTail r.id (length f.bytes) (r.start + length r.bytes) old.geometry (nor.bytes old.nor.now))
+        (part_count old.geometry (length f.bytes) r.start (length r.bytes)) old.nor.now new.nor.now (IsErr result)
 
   -- the same, apart from whether anything waited
   pub record SettledOr (old new : Volume N nor) (result : Result (Unit {0}) FsErr) : Type 0 where

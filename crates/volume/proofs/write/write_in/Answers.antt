@@ -21,7 +21,7 @@ use Rattle.file_calls.proofs.Restates.{the_file}
 use Rattle.file_calls.proofs.Cutting.{TellsRoom, is_old}
 use Rattle.file_calls.proofs.WriteLoop.{sized_after}
 use Rattle.file_calls.proofs.Standing.{stands_done, stands_stopped}
-use Rattle.volume.proofs.WriteCalls.{write_closed, write_unwritable, write_empty, empty_ends, write_refuses, meets_write, write_step, direct_ends, acts_waiting, ends_whole, moved_by, waits_at}
+use Rattle.volume.proofs.WriteCalls.{write_closed, write_unwritable, write_empty, empty_ends, write_refuses, meets_write, write_step, write_turns, direct_ends, acts_waiting, ends_whole, turned_whole, moved_by, waits_at}
 use Rattle.volume.proofs.write.write_in.Goals as goal
 
 pub returns-in_err-slot-clause-acts : goal.returns-in_err-slot-clause-acts
@@ -91,10 +91,10 @@ returns-then-may_wait-clause-acts g c =
     (looked_back (TellsRoom stat.size c.max.result (Ok tt)) found.looks looked.told) (waits_at c.args.v.now.geometry slot c.args.bytes.now c.from.ensures (rw looks.same.geometry at waits)) looks.reads c.have_room.new.v.wrote (looks.wrote ∙ c.requires.fresh) c.put.new.slots put c.begin.ensures.run
 
 pub returns-in_err-write_sized-clause-same : goal.returns-in_err-write_sized-clause-same
-returns-in_err-write_sized-clause-same g c = same_then (looks_then c.in_ok-size.ensures.looks c.in_ok-have_room.ensures.looks).same (c.in_err-write_sized.ensures (the_file 0 []) (sized_after c.in_ok-slot.slot.id c.place_of-at.result c.args.bytes.now c.in_ok-size.field-0 (the_file 0 []) (looks_then c.in_ok-size.ensures.looks c.in_ok-have_room.ensures.looks) c.in_ok-size.ensures.told)).framed.same
+returns-in_err-write_sized-clause-same g c = same_then (looks_then c.in_ok-size.ensures.looks c.in_ok-have_room.ensures.looks).same (c.in_err-write_sized.ensures (the_file 0 []) (sized_after c.in_ok-slot.slot.id c.place_of-at.result c.args.bytes.now c.in_ok-size.field-0 (the_file 0 []) (looks_then c.in_ok-size.ensures.looks c.in_ok-have_room.ensures.looks) c.in_ok-size.ensures.told)).steps.framed.same
 
 pub returns-clause-same : goal.returns-clause-same
-returns-clause-same g c = same_then (looks_then c.in_ok-size.ensures.looks c.in_ok-have_room.ensures.looks).same (c.in_ok-write_sized.ensures (the_file 0 []) (sized_after c.in_ok-slot.slot.id c.place_of-at.result c.args.bytes.now c.in_ok-size.field-0 (the_file 0 []) (looks_then c.in_ok-size.ensures.looks c.in_ok-have_room.ensures.looks) c.in_ok-size.ensures.told)).framed.same
+returns-clause-same g c = same_then (looks_then c.in_ok-size.ensures.looks c.in_ok-have_room.ensures.looks).same (c.in_ok-write_sized.ensures (the_file 0 []) (sized_after c.in_ok-slot.slot.id c.place_of-at.result c.args.bytes.now c.in_ok-size.field-0 (the_file 0 []) (looks_then c.in_ok-size.ensures.looks c.in_ok-have_room.ensures.looks) c.in_ok-size.ensures.told)).steps.framed.same
 
 pub returns-in_err-write_sized-clause-acts : goal.returns-in_err-write_sized-clause-acts
 returns-in_err-write_sized-clause-acts g c =
@@ -108,8 +108,9 @@ returns-in_err-write_sized-clause-acts g c =
     let file = the_file c.in_ok-slot.slot.id (table_of c.args.v.now.geometry (g.N.NorState.bytes c.args.v.now.nor.now)) in
     let some : 0 < length c.args.bytes.now = search rules in
     let does = write_step c.args.fd slot c.in_ok-slot.ensures.found c.args.bytes.now may stat.size file (is_old c.args.fd c.in_ok-slot.slot c.in_ok-slot.ensures.found 0 may stat found.told) c.place_of-at.result c.place_of-at.ensures some c.max.result (omega (arith, c.max.ensures, c.from.ensures, c.from-2.ensures)) (looked_back (TellsRoom stat.size c.max.result (Ok tt)) found.looks looked.told) in
+    let turns = write_turns c.args.fd slot c.in_ok-slot.ensures.found c.args.bytes.now may stat.size file (is_old c.args.fd c.in_ok-slot.slot c.in_ok-slot.ensures.found 0 may stat found.told) c.place_of-at.result c.place_of-at.ensures some c.max.result (omega (arith, c.max.ensures, c.from.ensures, c.from-2.ensures)) (looked_back (TellsRoom stat.size c.max.result (Ok tt)) found.looks looked.told) (looks_then found.looks looked.looks).same.geometry in
     rw (p.1, p.2) (λ into. acts_refused c.requires.none ask (Refuses c.in_err-write_sized.field-0.0) c.write_sized.new.v.wrote refl refl
-    (goes_unwritten ask (Number (length c.args.bytes.now)) refl refl (write_fine (opened c.in_ok-slot.slot) c.in_ok-slot.ensures.found (sym c.may_write.ensures ∙ c.if-not-may_write.false)) does (looks_then found.looks looked.looks) c.requires.fresh refl c.in_err-write_sized.field-0.0 refl refl
+    (goes_unwritten ask (Number (length c.args.bytes.now)) refl refl (write_fine (opened c.in_ok-slot.slot) c.in_ok-slot.ensures.found (sym c.may_write.ensures ∙ c.if-not-may_write.false)) does (looks_then found.looks looked.looks) c.requires.fresh refl c.in_err-write_sized.field-0.0 refl refl turns
     (c.in_err-write_sized.ensures file (sized_after slot.id c.place_of-at.result c.args.bytes.now stat file (looks_then found.looks looked.looks) found.told))))
 
 pub returns-clause-acts : goal.returns-clause-acts
@@ -125,13 +126,14 @@ returns-clause-acts g c =
     let some : 0 < length bytes = search rules in
     let room = looked_back (TellsRoom stat.size c.max.result (Ok tt)) found.looks looked.told in
     let does = write_step c.args.fd slot c.in_ok-slot.ensures.found bytes may stat.size file (is_old c.args.fd c.in_ok-slot.slot c.in_ok-slot.ensures.found 0 may stat found.told) c.place_of-at.result c.place_of-at.ensures some c.max.result (omega (arith, c.max.ensures, c.from.ensures, c.from-2.ensures)) room in
+    let turns = write_turns c.args.fd slot c.in_ok-slot.ensures.found bytes may stat.size file (is_old c.args.fd c.in_ok-slot.slot c.in_ok-slot.ensures.found 0 may stat found.told) c.place_of-at.result c.place_of-at.ensures some c.max.result (omega (arith, c.max.ensures, c.from.ensures, c.from-2.ensures)) room (looks_then found.looks looked.looks).same.geometry in
     let put = c.put-2.ensures ∙ ap (λ (o : Option Open). put_at (descriptors c.args.slots.now) c.args.fd o) (held_at slot (c.from.result + length bytes) c.in_ok-slot.ensures.used)
     ∙ ap (λ (n : ℕ). moved_by c.args.slots.now c.args.fd slot (n + length bytes)) c.from.ensures in
     let apart : (not (is_direct slot.flags) && nat_le (c.from.result + length bytes) (page_end c.have_room.new.v.geometry c.place_of-at.result)) ≡ false = sym c.may_wait.ensures ∙ c.if-may_wait.false in
     λ into. acts_settled c.requires.none ask (Number (length bytes)) c.write_sized.new.v.wrote
     (λ s here is. direct_ends c.args.fd slot c.in_ok-slot.ensures.found bytes may stat.size file (is_old c.args.fd c.in_ok-slot.slot c.in_ok-slot.ensures.found 0 may stat found.told) c.place_of-at.result c.place_of-at.ensures some c.max.result (omega (arith, c.max.ensures, c.from.ensures, c.from-2.ensures)) room (waits_at c.args.v.now.geometry slot bytes c.from.ensures (rw (looks_then found.looks looked.looks).same.geometry at apart)) s here)
-    (goes_written ask (Number (length bytes)) refl refl (write_fine (opened c.in_ok-slot.slot) c.in_ok-slot.ensures.found (sym c.may_write.ensures ∙ c.if-not-may_write.false)) does (looks_then found.looks looked.looks) c.requires.fresh refl c.put-2.new.slots put refl (eq-eqb (length bytes) (length bytes) refl) (λ given e. absurd (cc)) (λ k. absurd (let no : false ≡ true = k in cc))
-    (ends_whole (c.in_ok-write_sized.ensures file (sized_after slot.id c.place_of-at.result bytes stat file (looks_then found.looks looked.looks) found.told))))
+    (goes_written ask (Number (length bytes)) refl refl (write_fine (opened c.in_ok-slot.slot) c.in_ok-slot.ensures.found (sym c.may_write.ensures ∙ c.if-not-may_write.false)) does (looks_then found.looks looked.looks) c.requires.fresh refl c.put-2.new.slots put refl (eq-eqb (length bytes) (length bytes) refl) (λ given e. absurd (cc)) (λ k. absurd (let no : false ≡ true = k in cc)) turns
+    (turned_whole (c.in_ok-write_sized.ensures file (sized_after slot.id c.place_of-at.result bytes stat file (looks_then found.looks looked.looks) found.told))))
 
 pub returns-in_err-write_sized-clause-counted : goal.returns-in_err-write_sized-clause-counted
 returns-in_err-write_sized-clause-counted g c =
@@ -147,7 +149,7 @@ returns-in_err-write_sized-clause-counted g c =
     let looks = looks_then found.looks looked.looks in
     let does = write_step c.args.fd slot c.in_ok-slot.ensures.found bytes may stat.size file (is_old c.args.fd c.in_ok-slot.slot c.in_ok-slot.ensures.found 0 may stat found.told) c.place_of-at.result c.place_of-at.ensures some c.max.result (omega (arith, c.max.ensures, c.from.ensures, c.from-2.ensures)) (looked_back (TellsRoom stat.size c.max.result (Ok tt)) found.looks looked.told) in
     let sized = sized_after slot.id c.place_of-at.result bytes stat file looks found.told in
-    rw (p.1, p.2) (λ into. stands_stopped does looks c.in_err-write_sized.field-0.0 (c.in_err-write_sized.ensures file sized))
+    rw (p.1, p.2) (λ into. stands_stopped does looks c.in_err-write_sized.field-0.0 (c.in_err-write_sized.ensures file sized).steps)
 
 pub returns-clause-counted : goal.returns-clause-counted
 returns-clause-counted g c =
@@ -162,4 +164,4 @@ returns-clause-counted g c =
     let looks = looks_then found.looks looked.looks in
     let does = write_step c.args.fd slot c.in_ok-slot.ensures.found bytes may stat.size file (is_old c.args.fd c.in_ok-slot.slot c.in_ok-slot.ensures.found 0 may stat found.told) c.place_of-at.result c.place_of-at.ensures some c.max.result (omega (arith, c.max.ensures, c.from.ensures, c.from-2.ensures)) (looked_back (TellsRoom stat.size c.max.result (Ok tt)) found.looks looked.told) in
     let sized = sized_after slot.id c.place_of-at.result bytes stat file looks found.told in
-    λ into. stands_done does looks (Number (length bytes)) (ends_whole (c.in_ok-write_sized.ensures file sized))
+    λ into. stands_done does looks (Number (length bytes)) (ends_whole (c.in_ok-write_sized.ensures file sized).steps)
