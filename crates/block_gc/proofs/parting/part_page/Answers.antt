@@ -6,6 +6,11 @@ use Rattle.block_gc.specs.Moves.{moving}
 use Rattle.block_gc.proofs.PartedPages.{part_stays, plain_by, held_by, none_beside, page_passes, place_found, page_moves}
 use Rattle.block_gc.proofs.parting.part_page.Goals as goal
 
+pub returns-in_err-c-clause-step : goal.returns-in_err-c-clause-step
+returns-in_err-c-clause-step g c =
+    let seen = c.in_err-c.ensures.looks in
+    look_faults seen.only seen.cause c.from_residual.ensures.0 c.from_residual.ensures.1 (λ tells can. part_stays _ _ can.0)
+
 pub returns-then-c-eq0-clause-step : goal.returns-then-c-eq0-clause-step
 returns-then-c-eq0-clause-step g c =
     let seen = c.in_ok-c.ensures.looks in
