@@ -25,7 +25,7 @@ returns-in-Some-clause-told g c = λ tells tidy.
     let geometry = view.geometry in
     let image = g.N.NorState.bytes view.nor.now in
     let name = c.args.name.now in
-    let looked = c.in_ok-name_or_id.ensures in
+    let looked = c.in_ok-found.ensures in
     let told : NamingOf geometry image name (Free c.in-Free.found) = rw c.in-Free.is at (looked.looks.told tells) in
     let none = told.0 in
     let found = told.1 in
@@ -41,7 +41,7 @@ unfolding unused_id
 returns-in-None-clause-told g c = λ tells tidy.
     let geometry = c.args.v.now.geometry in
     let image = g.N.NorState.bytes c.args.v.now.nor.now in
-    let looked = c.in_ok-name_or_id.ensures in
+    let looked = c.in_ok-found.ensures in
     let told : NamingOf geometry image c.args.name.now (Free c.in-Free.found) = rw c.in-Free.is at (looked.looks.told tells) in
     let had : page_lack geometry image 1 ≡ None = looked_back (λ h a. page_lack h a 1 ≡ None) looked.looks.only c.in_ok-have_page.ensures.told tells tidy in
     let room : has_room geometry (created geometry [] (table_of geometry image)) ≡ true = created_room geometry [] (table_of geometry image) ∙ (allowed geometry image 1 had).room in
