@@ -1,7 +1,7 @@
 -- What the exits of calls share.
 use Rattle.std.proofs.lemmas.Bool.{and_parts}
 use Rattle.std.proofs.Common.{◌&&◌, ◌||◌, ◌<◌, zero, suc, length, get_or, ◌≡◌, ◌≢◌, ◌≤◌, ℕ, ◌⊎◌, ⊎_elim, inl, inr, List, [], ◌∷◌, Bool, true, false, refl, sym, ◌∙◌, ap, subst, arith}
-use Rattle.std.specs.Prelude.{Option, Some, None, Result, Ok, Err, IsErr, IsErrOf}
+use Rattle.std.specs.Prelude.{Option, Some, None, Result, Ok, Err, IsErr, IsErrOf, IsErrAnd}
 use Rattle.geometry.specs.declared.geometry.Geometry.{Geometry}
 use Rattle.nor_core.specs.declared.state.NorState.{Ghosts as NorOf}
 use Rattle.nor_core.specs.Count.{Rose}
@@ -54,6 +54,11 @@ use Rattle.file_calls.proofs.Numbered.{name_of_slots, names_barred, numbered_fin
 use Rattle.file_calls.specs.Goes.{CallCut, Reaches, IsDoable, IsCorner, StopsShort, StaysAt, IsCollected, IsGiven, Goes}
 use Rattle.file_calls.proofs.CleansBy.{cleans_as, cleans_reads, taken_as, taken_after}
 use Rattle.file_calls.proofs.TurnsBy.{index_few, some_among, few_once, few_more, turns_none, turns_once, turns_as, turned_after}
+
+-- the exit of a `?` that gives one error
+pub err_is : {T E : Type 0} {why : E} (r : Result T E) → IsErrAnd r (λ e. e ≡ why) → r ≡ Err why
+err_is (Ok x) h = absurd h
+err_is (Err e) h = ap Err h
 
 -- ---- the flat table
 

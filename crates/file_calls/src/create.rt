@@ -16,7 +16,6 @@ use crate::collecting::take_page;
 use crate::live_pages::live_pages;
 use crate::names::accept;
 use crate::room::has_room;
-use crate::steps::failed_as;
 use file_write::create_step;
 use flash_view::View;
 use free_search::{Naming, free_id, name_or_id};
@@ -34,10 +33,9 @@ pub(crate) fn refuse_known<N: Nor>(v: &mut View<'_, N>, name: &[u8]) -> Result<(
         IsNewName name.now (table_of v.old.geometry (N.bytes v.old.nor.now)) result }
 {
     names_are_told();
-    match v.seek_name(name) {
-        Err(Failed) => Err(FsErr::DeviceFault),
-        Ok(Some(_)) => Err(FsErr::ConflictingName),
-        Ok(None) => Ok(()),
+    match v.seek_name(name)? {
+        Some(_) => Err(FsErr::ConflictingName),
+        None => Ok(()),
     }
 }
 
@@ -70,10 +68,9 @@ pub(crate) fn have_page<N: Nor>(v: &mut View<'_, N>, more: u32) -> Result<(), Fs
     ensures among { IfErr result MeetsPage }
     ensures told { N.tells v.old.nor.now → IsTidy v.old.geometry (N.bytes v.old.nor.now) → HasPage v.old.geometry (N.bytes v.old.nor.now) more result }
 {
-    match obstacle(v, more) {
-        Err(Failed) => Err(FsErr::DeviceFault),
-        Ok(Some(why)) => Err(why),
-        Ok(None) => Ok(()),
+    match obstacle(v, more)? {
+        Some(why) => Err(why),
+        None => Ok(()),
     }
 }
 
@@ -88,10 +85,9 @@ pub(crate) fn prepare<N: Nor>(v: &mut View<'_, N>) -> Result<u16, FsErr>
 {
     have_page(v, 1)?;
     ids_are_least();
-    match free_id(v) {
-        Err(Failed) => Err(FsErr::DeviceFault),
-        Ok(Some(id)) => Ok(id),
-        Ok(None) => Err(FsErr::Full),
+    match free_id(v)? {
+        Some(id) => Ok(id),
+        None => Err(FsErr::Full),
     }
 }
 
@@ -107,16 +103,13 @@ fn new_id<N: Nor>(v: &mut View<'_, N>, name: &[u8]) -> Result<u16, FsErr>
 {
     names_are_told();
     ids_are_least();
-    match name_or_id(v, name) {
-        Err(Failed) => Err(FsErr::DeviceFault),
-        Ok(Naming::Taken) => Err(FsErr::ConflictingName),
-        Ok(Naming::Free(found)) => {
-            have_page(v, 1)?;
-            match found {
-                Some(id) => Ok(id),
-                None => Err(FsErr::Full),
-            }
-        }
+    let Naming::Free(found) = name_or_id(v, name)? else {
+        return Err(FsErr::ConflictingName);
+    };
+    have_page(v, 1)?;
+    match found {
+        Some(id) => Ok(id),
+        None => Err(FsErr::Full),
     }
 }
 
@@ -134,8 +127,6 @@ pub(crate) fn create_in<N: Nor>(v: &mut View<'_, N>, name: &[u8]) -> Result<Told
     accept(name)?;
     let id = new_id(v, name)?;
     take_page(v)?;
-    match create_step(v, id, name) {
-        Ok(()) => Ok(Told::Done),
-        Err(why) => Err(failed_as(why)),
-    }
+    create_step(v, id, name)?;
+    Ok(Told::Done)
 }

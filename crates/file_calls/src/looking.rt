@@ -9,7 +9,7 @@ use crate::Told;
 use crate::names::accept;
 use crate::records::{info_of_all, stat_above, stat_named};
 use flash_view::View;
-use nor_core::{Failed, Nor, NorState};
+use nor_core::{Nor, NorState};
 use table_model::FsErr;
 
 /// Tells the record of the file of a name.
@@ -23,10 +23,9 @@ pub(crate) fn tell_stat<N: Nor>(v: &mut View<'_, N>, name: &[u8]) -> Result<Told
         StandsOn N.NorState v.old.geometry v.old.nor.now slots (reply_of result into) v.old.counted v.new.counted }
 {
     accept(name)?;
-    match stat_named(v, name) {
-        Err(Failed) => Err(FsErr::DeviceFault),
-        Ok(Some(stat)) => Ok(Told::File(stat)),
-        Ok(None) => Err(FsErr::NotFound),
+    match stat_named(v, name)? {
+        Some(stat) => Ok(Told::File(stat)),
+        None => Err(FsErr::NotFound),
     }
 }
 
@@ -39,10 +38,9 @@ pub(crate) fn tell_next<N: Nor>(v: &mut View<'_, N>, after: u16) -> Result<Told,
     ensures counted { (slots : List FdSlot) (into : List ℕ) →
         StandsOn N.NorState v.old.geometry v.old.nor.now slots (reply_of result into) v.old.counted v.new.counted }
 {
-    match stat_above(v, after) {
-        Err(Failed) => Err(FsErr::DeviceFault),
-        Ok(Some(stat)) => Ok(Told::File(stat)),
-        Ok(None) => Ok(Told::NoMore),
+    match stat_above(v, after)? {
+        Some(stat) => Ok(Told::File(stat)),
+        None => Ok(Told::NoMore),
     }
 }
 
@@ -55,8 +53,6 @@ pub(crate) fn tell_info<N: Nor>(v: &mut View<'_, N>) -> Result<Told, FsErr>
     ensures counted { (slots : List FdSlot) (into : List ℕ) →
         StandsOn N.NorState v.old.geometry v.old.nor.now slots (reply_of result into) v.old.counted v.new.counted }
 {
-    match info_of_all(v) {
-        Err(Failed) => Err(FsErr::DeviceFault),
-        Ok(info) => Ok(Told::Room(info)),
-    }
+    let info = info_of_all(v)?;
+    Ok(Told::Room(info))
 }

@@ -18,12 +18,11 @@ use crate::create::prepare;
 use crate::names::accept;
 use crate::reading::record_of;
 use crate::room::have_room;
-use crate::steps::failed_as;
 use crate::truncating::cut_file;
 use fd_table::{FdErr, FdSlot, first_closed, pull_file_back, put};
 use file_write::create_step;
 use flash_view::View;
-use nor_core::{Failed, Nor, NorState};
+use nor_core::{Nor, NorState};
 use table_model::{FsErr, OpenFlags};
 
 /// The file becomes empty as it is opened.
@@ -67,16 +66,15 @@ fn find_opened<N: Nor>(v: &mut View<'_, N>, name: &[u8], flags: u32) -> Result<O
     ensures told { N.tells v.old.nor.now → IsTidy v.old.geometry (N.bytes v.old.nor.now) →
         FindsOpened name.now flags (table_of v.old.geometry (N.bytes v.old.nor.now)) result }
 {
-    match v.seek_name(name) {
-        Err(Failed) => Err(FsErr::DeviceFault),
-        Ok(Some(id)) => {
+    match v.seek_name(name)? {
+        Some(id) => {
             if flags & CREAT != 0 && flags & EXCL != 0 {
                 Err(FsErr::FileExists)
             } else {
                 Ok(Some(id))
             }
         }
-        Ok(None) => {
+        None => {
             if flags & CREAT != 0 {
                 Ok(None)
             } else {
@@ -147,15 +145,12 @@ fn open_found<N: Nor>(
         return Ok(Told::Number(u32::from(fd)));
     }
     have_room(v, size, 0)?;
-    match cut_file(v, id, 0) {
-        Ok(true) => {
-            pull_file_back(slots, id, 0);
-            open_at(slots, fd, id, flags);
-            Ok(Told::Number(u32::from(fd)))
-        }
-        Ok(false) => Err(FsErr::Tight),
-        Err(why) => Err(failed_as(why)),
+    if !cut_file(v, id, 0)? {
+        return Err(FsErr::Tight);
     }
+    pull_file_back(slots, id, 0);
+    open_at(slots, fd, id, flags);
+    Ok(Told::Number(u32::from(fd)))
 }
 
 /// Opens the file of a name, or makes it where the flags say so; where they say so it becomes empty.
@@ -180,11 +175,7 @@ pub(crate) fn open_in<N: Nor>(
     }
     let id = prepare(v)?;
     take_page(v)?;
-    match create_step(v, id, name) {
-        Ok(()) => {
-            open_at(slots, fd, id, flags);
-            Ok(Told::Number(u32::from(fd)))
-        }
-        Err(why) => Err(failed_as(why)),
-    }
+    create_step(v, id, name)?;
+    open_at(slots, fd, id, flags);
+    Ok(Told::Number(u32::from(fd)))
 }

@@ -15,11 +15,10 @@ ghost use Rattle.file_calls.specs.Goes.{Goes, StandsOn};
 use crate::Told;
 use crate::records::stat_of_id;
 use crate::slots::opened;
-use crate::steps::failed_as;
 use fd_table::{FdSlot, put};
 use file_read::{no_header, read_from};
 use flash_view::{StepErr, View};
-use nor_core::{Failed, Nor, NorState};
+use nor_core::{Nor, NorState};
 use table_model::{FsErr, Stat, Whence};
 
 /// The record of the file of an open descriptor, which is there.
@@ -30,10 +29,9 @@ pub fn record_of<N: Nor>(v: &mut View<'_, N>, id: u16) -> Result<Stat, FsErr>
     ensures told { N.tells v.old.nor.now → IsTidy v.old.geometry (N.bytes v.old.nor.now) →
         TellsRecord id (table_of v.old.geometry (N.bytes v.old.nor.now)) result }
 {
-    match stat_of_id(v, id) {
-        Err(Failed) => Err(FsErr::DeviceFault),
-        Ok(Some(stat)) => Ok(stat),
-        Ok(None) => Err(FsErr::Damaged(no_header(id))),
+    match stat_of_id(v, id)? {
+        Some(stat) => Ok(stat),
+        None => Err(FsErr::Damaged(no_header(id))),
     }
 }
 
@@ -137,18 +135,14 @@ pub(crate) fn read_in<N: Nor>(
     if !slot.flags.may_read() {
         return Err(FsErr::NotReadable);
     }
-    match read_file(v, slot.id, slot.offset, &mut into[..count as usize]) {
-        Ok(read) => {
-            put(
-                slots,
-                fd,
-                FdSlot {
-                    offset: slot.offset + read,
-                    ..slot
-                },
-            );
-            Ok(Told::Bytes(read))
-        }
-        Err(why) => Err(failed_as(why)),
-    }
+    let read = read_file(v, slot.id, slot.offset, &mut into[..count as usize])?;
+    put(
+        slots,
+        fd,
+        FdSlot {
+            offset: slot.offset + read,
+            ..slot
+        },
+    );
+    Ok(Told::Bytes(read))
 }

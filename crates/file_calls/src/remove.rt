@@ -11,11 +11,10 @@ ghost use Rattle.file_calls.specs.Goes.{Goes, StandsOn};
 use crate::Told;
 use crate::names::accept;
 use crate::slots::opened;
-use crate::steps::failed_as;
 use fd_table::{FdSlot, close_file};
 use file_drop::remove_step;
 use flash_view::View;
-use nor_core::{Failed, Nor, NorState};
+use nor_core::{Nor, NorState};
 use table_model::FsErr;
 
 /// The id of the file of a name, by its header page.
@@ -26,10 +25,9 @@ pub(crate) fn find_named<N: Nor>(v: &mut View<'_, N>, name: &[u8]) -> Result<u16
     ensures told { N.tells v.old.nor.now → IsTidy v.old.geometry (N.bytes v.old.nor.now) →
         FindsNamed name.now (table_of v.old.geometry (N.bytes v.old.nor.now)) result }
 {
-    match v.seek_name(name) {
-        Err(Failed) => Err(FsErr::DeviceFault),
-        Ok(Some(id)) => Ok(id),
-        Ok(None) => Err(FsErr::NotFound),
+    match v.seek_name(name)? {
+        Some(id) => Ok(id),
+        None => Err(FsErr::NotFound),
     }
 }
 
@@ -48,13 +46,9 @@ pub(crate) fn remove_in<N: Nor>(
 {
     accept(name)?;
     let id = find_named(v, name)?;
-    match remove_step(v, id) {
-        Ok(()) => {
-            close_file(slots, id);
-            Ok(Told::Done)
-        }
-        Err(why) => Err(failed_as(why)),
-    }
+    remove_step(v, id)?;
+    close_file(slots, id);
+    Ok(Told::Done)
 }
 
 /// Removes the file of a descriptor, and closes each descriptor on it.
@@ -71,11 +65,7 @@ pub(crate) fn remove_open<N: Nor>(
     ensures counted { (into : List ℕ) → StandsOn N.NorState v.old.geometry v.old.nor.now slots.old (reply_of result into) v.old.counted v.new.counted }
 {
     let slot = opened(slots, fd)?;
-    match remove_step(v, slot.id) {
-        Ok(()) => {
-            close_file(slots, slot.id);
-            Ok(Told::Done)
-        }
-        Err(why) => Err(failed_as(why)),
-    }
+    remove_step(v, slot.id)?;
+    close_file(slots, slot.id);
+    Ok(Told::Done)
 }

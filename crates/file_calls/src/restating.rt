@@ -13,7 +13,6 @@ use crate::create::{have_page, refuse_known};
 use crate::names::{accept, accept_both};
 use crate::remove::find_named;
 use crate::slots::opened;
-use crate::steps::failed_as;
 use fd_table::FdSlot;
 use flash_view::View;
 use geometry::Geometry;
@@ -45,10 +44,8 @@ fn restate_file<N: Nor>(v: &mut View<'_, N>, id: u16, edit: Edit<'_>) -> Result<
 {
     have_page(v, 0)?;
     take_page(v)?;
-    match restate(v, id, edit) {
-        Ok(()) => Ok(Told::Done),
-        Err(why) => Err(failed_as(why)),
-    }
+    restate(v, id, edit)?;
+    Ok(Told::Done)
 }
 
 /// Gives the file of a name another one.

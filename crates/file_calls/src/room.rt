@@ -138,10 +138,9 @@ pub fn have_room<N: Nor>(v: &mut View<'_, N>, from: u32, to: u64) -> Result<(), 
         (f new : File) → IsResized (table_of v.old.geometry (N.bytes v.old.nor.now)) from to f new →
         HasRoomAfter v.old.geometry (N.bytes v.old.nor.now) (put_file new (table_of v.old.geometry (N.bytes v.old.nor.now))) result }
 {
-    match obstacle_for(v, from, to) {
-        Err(Failed) => Err(FsErr::DeviceFault),
-        Ok(Some(why)) => Err(why),
-        Ok(None) => Ok(()),
+    match obstacle_for(v, from, to)? {
+        Some(why) => Err(why),
+        None => Ok(()),
     }
 }
 

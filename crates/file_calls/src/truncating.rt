@@ -13,7 +13,6 @@ use crate::collecting::seek_page;
 use crate::reading::record_of;
 use crate::room::have_room;
 use crate::slots::opened;
-use crate::steps::failed_as;
 use fd_table::{FdSlot, pull_file_back};
 use file_drop::truncate_step;
 use flash_view::{StepErr, View};
@@ -26,14 +25,11 @@ pub(crate) fn cut_file<N: Nor>(v: &mut View<'_, N>, id: u16, size: u32) -> Resul
     requires { size < 0xFFFFFFFF }
     ensures { (f : File) → Taken stopped 1 0 v.old v.new result (cutting id size f) }
 {
-    match seek_page(v) {
-        Err(why) => Err(why),
-        Ok(false) => Ok(false),
-        Ok(true) => {
-            truncate_step(v, id, size)?;
-            Ok(true)
-        }
+    if !seek_page(v)? {
+        return Ok(false);
     }
+    truncate_step(v, id, size)?;
+    Ok(true)
 }
 
 /// Cuts the file of a descriptor that may write to a size in bytes; descriptors beyond its end stand at it.
@@ -62,12 +58,9 @@ pub(crate) fn truncate_in<N: Nor>(
         return Ok(Told::Done);
     }
     have_room(v, old, u64::from(size))?;
-    match cut_file(v, slot.id, size) {
-        Ok(true) => {
-            pull_file_back(slots, slot.id, size);
-            Ok(Told::Done)
-        }
-        Ok(false) => Err(FsErr::Tight),
-        Err(why) => Err(failed_as(why)),
+    if !cut_file(v, slot.id, size)? {
+        return Err(FsErr::Tight);
     }
+    pull_file_back(slots, slot.id, size);
+    Ok(Told::Done)
 }

@@ -1,5 +1,4 @@
 use Rattle.std.proofs.Common.{[], ◌≡◌, true, false, refl, ◌∙◌, ap, Ok, Err, bit_and}
-use Rattle.std.proofs.lemmas.Result.{err_from_is_err_and}
 use Rattle.std.proofs.lemmas.Bool.{lt-ltb}
 use Rattle.nor_core.proofs.Cuts.{reads_none}
 use Rattle.flash_view.proofs.Looking.{looks_then, same_then}
@@ -11,7 +10,7 @@ use Rattle.image_model.specs.Tables.{table_of}
 use Rattle.file_calls.specs.Replies.{is_change, reads_file}
 use Rattle.fd_table.specs.Slots.{descriptors}
 use Rattle.file_calls.proofs.Numbered.{opens_fine}
-use Rattle.file_calls.proofs.Going.{goes_refused, goes_moved, goes_done, goes_broken, rose_later, looked_back, or_first, or_last}
+use Rattle.file_calls.proofs.Going.{err_is, goes_refused, goes_moved, goes_done, goes_broken, rose_later, looked_back, or_first, or_last}
 use Rattle.file_calls.proofs.Descriptors.{goes_unread}
 use Rattle.file_calls.proofs.Restates.{the_file}
 use Rattle.file_calls.proofs.Cutting.{TellsRoom, ends_true, fails_true, goes_cornered}
@@ -29,12 +28,11 @@ returns-then-flags-eq0-clause-goes g c =
 
 pub returns-in_err-size-clause-goes : goal.returns-in_err-size-clause-goes
 returns-in_err-size-clause-goes g c =
-    let p = err_from_is_err_and c.from_residual.result c.from_residual.ensures.1 in
     let name = c.args.name.now in
     let empty : empties c.args.flags ≡ true = is_set (bit_and c.args.flags 2) c.if-flags-eq0.false in
     let change : is_change (Opens name c.args.flags) ≡ true = or_last (makes c.args.flags) (empties c.args.flags) empty in
     let failed = c.in_err-size.ensures in
-    rw (p.1, p.2) (λ into. goes_unread (Opens name c.args.flags) c.in_err-size.field-0.0 c.record_of.new.v.wrote (failed.looks.wrote ∙ c.requires.fresh) failed.looks.reads refl (opens_fine c.args.v.now.geometry (descriptors c.args.slots.now) name c.requires.named c.args.flags c.requires.slot) refl (or_first (is_change (Opens name c.args.flags)) (reads_file (Opens name c.args.flags)) change) failed.missed (λ e. failed.cause (ap (λ (w : FsErr). Err w) e))
+    rw (err_is c.from_residual.result c.from_residual.ensures.1) (λ into. goes_unread (Opens name c.args.flags) c.in_err-size.field-0.0 c.record_of.new.v.wrote (failed.looks.wrote ∙ c.requires.fresh) failed.looks.reads refl (opens_fine c.args.v.now.geometry (descriptors c.args.slots.now) name c.requires.named c.args.flags c.requires.slot) refl (or_first (is_change (Opens name c.args.flags)) (reads_file (Opens name c.args.flags)) change) failed.missed (λ e. failed.cause (ap (λ (w : FsErr). Err w) e))
     (λ s here no_fault. opened_missing name c.args.flags c.requires.named c.args.fd c.requires.slot c.args.id c.requires.found s here (failed.told here.tells here.tidy no_fault)))
 
 pub returns-then-size-eq0-clause-goes : goal.returns-then-size-eq0-clause-goes
@@ -46,19 +44,18 @@ returns-then-size-eq0-clause-goes g c =
 
 pub returns-in_err-have_room-clause-goes : goal.returns-in_err-have_room-clause-goes
 returns-in_err-have_room-clause-goes g c =
-    let p = err_from_is_err_and c.from_residual-in_err-have_room.result c.from_residual-in_err-have_room.ensures.1 in
     let name = c.args.name.now in
     let empty : empties c.args.flags ≡ true = is_set (bit_and c.args.flags 2) c.if-flags-eq0.false in
     let found = c.in_ok-size.ensures in
     let stat = c.in_ok-size.field-0 in
     let failed = c.in_err-have_room.ensures in
     let looks = looks_then found.looks failed.looks in
-    rw (p.1, p.2) (λ into. goes_refused (Opens name c.args.flags) c.in_err-have_room.field-0.0 c.have_room.new.v.wrote (looks.wrote ∙ c.requires.fresh) looks.reads refl (opens_fine c.args.v.now.geometry (descriptors c.args.slots.now) name c.requires.named c.args.flags c.requires.slot) (failed.among name [] c.args.flags 0 0).1 (λ e. rose_later _ _ _ found.looks.same.faults (failed.cause e))
+    rw (err_is c.from_residual-in_err-have_room.result c.from_residual-in_err-have_room.ensures.1) (λ into. goes_refused (Opens name c.args.flags) c.in_err-have_room.field-0.0 c.have_room.new.v.wrote (looks.wrote ∙ c.requires.fresh) looks.reads refl (opens_fine c.args.v.now.geometry (descriptors c.args.slots.now) name c.requires.named c.args.flags c.requires.slot) (failed.among name [] c.args.flags 0 0).1 (λ e. rose_later _ _ _ found.looks.same.faults (failed.cause e))
     (λ s here no_fault. empties_refuses name c.args.flags c.requires.named c.args.fd c.requires.slot c.args.id c.requires.found stat found.told empty c.if-size-eq0.false
     (looked_back (TellsRoom stat.size 0 (Err c.in_err-have_room.field-0.0)) found.looks failed.told) s here no_fault))
 
-pub returns-in-Ok-true-clause-goes : goal.returns-in-Ok-true-clause-goes
-returns-in-Ok-true-clause-goes g c =
+pub returns-clause-goes : goal.returns-clause-goes
+returns-clause-goes g c =
     let name = c.args.name.now in
     let empty : empties c.args.flags ≡ true = is_set (bit_and c.args.flags 2) c.if-flags-eq0.false in
     let change : is_change (Opens name c.args.flags) ≡ true = or_last (makes c.args.flags) (empties c.args.flags) empty in
@@ -66,12 +63,12 @@ returns-in-Ok-true-clause-goes g c =
     let stat = c.in_ok-size.field-0 in
     let looked = c.in_ok-have_room.ensures in
     let does = emptied_step name c.args.flags c.requires.named c.args.fd c.requires.slot c.args.id c.requires.found stat found.told empty c.if-size-eq0.false (looked_back (TellsRoom stat.size 0 (Ok tt)) found.looks looked.told) in
-    rw c.from-in-Ok-true.ensures (λ into. goes_done (Opens name c.args.flags) (Number c.args.fd) refl change (opens_fine c.args.v.now.geometry (descriptors c.args.slots.now) name c.requires.named c.args.flags c.requires.slot) does (looks_then found.looks looked.looks) c.requires.fresh c.open_at-in-Ok-true.new.slots
-    (rw c.pull_file_back.ensures at c.open_at-in-Ok-true.ensures) refl (lt-ltb c.args.fd 65536 c.ranges.fd.fits) (λ bytes e. absurd (cc)) (λ k. absurd (let no : false ≡ true = k in cc))
-    (ends_true (rw c.in-Ok-true.field-0-test at (c.in-Ok-true.ensures (the_file c.args.id (table_of c.args.v.now.geometry (g.N.NorState.bytes c.args.v.now.nor.now)))))))
+    rw c.from-2.ensures (λ into. goes_done (Opens name c.args.flags) (Number c.args.fd) refl change (opens_fine c.args.v.now.geometry (descriptors c.args.slots.now) name c.requires.named c.args.flags c.requires.slot) does (looks_then found.looks looked.looks) c.requires.fresh c.open_at-2.new.slots
+    (rw c.pull_file_back.ensures at c.open_at-2.ensures) refl (lt-ltb c.args.fd 65536 c.ranges.fd.fits) (λ bytes e. absurd (cc)) (λ k. absurd (let no : false ≡ true = k in cc))
+    (ends_true (rw c.if-not-branch.false at (c.in_ok-cut_file.ensures (the_file c.args.id (table_of c.args.v.now.geometry (g.N.NorState.bytes c.args.v.now.nor.now)))))))
 
-pub returns-in-Ok-false-clause-goes : goal.returns-in-Ok-false-clause-goes
-returns-in-Ok-false-clause-goes g c =
+pub returns-then-not-branch-clause-goes : goal.returns-then-not-branch-clause-goes
+returns-then-not-branch-clause-goes g c =
     let name = c.args.name.now in
     let empty : empties c.args.flags ≡ true = is_set (bit_and c.args.flags 2) c.if-flags-eq0.false in
     let change : is_change (Opens name c.args.flags) ≡ true = or_last (makes c.args.flags) (empties c.args.flags) empty in
@@ -80,10 +77,10 @@ returns-in-Ok-false-clause-goes g c =
     let looked = c.in_ok-have_room.ensures in
     let does = emptied_step name c.args.flags c.requires.named c.args.fd c.requires.slot c.args.id c.requires.found stat found.told empty c.if-size-eq0.false (looked_back (TellsRoom stat.size 0 (Ok tt)) found.looks looked.told) in
     λ into. goes_cornered (Opens name c.args.flags) (Number c.args.fd) refl change empty (opens_fine c.args.v.now.geometry (descriptors c.args.slots.now) name c.requires.named c.args.flags c.requires.slot) does (looks_then found.looks looked.looks) c.requires.fresh refl
-    (rw c.in-Ok-false.field-0-test at (c.in-Ok-false.ensures (the_file c.args.id (table_of c.args.v.now.geometry (g.N.NorState.bytes c.args.v.now.nor.now)))))
+    (rw c.if-not-branch.true at (c.in_ok-cut_file.ensures (the_file c.args.id (table_of c.args.v.now.geometry (g.N.NorState.bytes c.args.v.now.nor.now)))))
 
-pub returns-in-Err-clause-goes : goal.returns-in-Err-clause-goes
-returns-in-Err-clause-goes g c =
+pub returns-in_err-cut_file-clause-goes : goal.returns-in_err-cut_file-clause-goes
+returns-in_err-cut_file-clause-goes g c =
     let name = c.args.name.now in
     let empty : empties c.args.flags ≡ true = is_set (bit_and c.args.flags 2) c.if-flags-eq0.false in
     let change : is_change (Opens name c.args.flags) ≡ true = or_last (makes c.args.flags) (empties c.args.flags) empty in
@@ -91,20 +88,20 @@ returns-in-Err-clause-goes g c =
     let stat = c.in_ok-size.field-0 in
     let looked = c.in_ok-have_room.ensures in
     let does = emptied_step name c.args.flags c.requires.named c.args.fd c.requires.slot c.args.id c.requires.found stat found.told empty c.if-size-eq0.false (looked_back (TellsRoom stat.size 0 (Ok tt)) found.looks looked.told) in
-    rw c.failed_as.ensures (λ into. goes_broken (Opens name c.args.flags) (Number c.args.fd) refl change (opens_fine c.args.v.now.geometry (descriptors c.args.slots.now) name c.requires.named c.args.flags c.requires.slot) does (looks_then found.looks looked.looks) c.requires.fresh c.in-Err.why refl
-    (fails_true (c.in-Err.ensures (the_file c.args.id (table_of c.args.v.now.geometry (g.N.NorState.bytes c.args.v.now.nor.now))))))
+    rw (err_is c.from_residual-in_err-cut_file.result c.from_residual-in_err-cut_file.ensures.1) (λ into. goes_broken (Opens name c.args.flags) (Number c.args.fd) refl change (opens_fine c.args.v.now.geometry (descriptors c.args.slots.now) name c.requires.named c.args.flags c.requires.slot) does (looks_then found.looks looked.looks) c.requires.fresh c.in_err-cut_file.field-0.0 refl
+    (fails_true (c.in_err-cut_file.ensures (the_file c.args.id (table_of c.args.v.now.geometry (g.N.NorState.bytes c.args.v.now.nor.now))))))
 
-pub returns-in-Ok-true-clause-same : goal.returns-in-Ok-true-clause-same
-returns-in-Ok-true-clause-same g c = same_then (looks_then c.in_ok-size.ensures.looks c.in_ok-have_room.ensures.looks).same (c.in-Ok-true.ensures (the_file 0 [])).steps.framed.same
+pub returns-clause-same : goal.returns-clause-same
+returns-clause-same g c = same_then (looks_then c.in_ok-size.ensures.looks c.in_ok-have_room.ensures.looks).same (c.in_ok-cut_file.ensures (the_file 0 [])).steps.framed.same
 
-pub returns-in-Ok-false-clause-same : goal.returns-in-Ok-false-clause-same
-returns-in-Ok-false-clause-same g c = same_then (looks_then c.in_ok-size.ensures.looks c.in_ok-have_room.ensures.looks).same (c.in-Ok-false.ensures (the_file 0 [])).steps.framed.same
+pub returns-then-not-branch-clause-same : goal.returns-then-not-branch-clause-same
+returns-then-not-branch-clause-same g c = same_then (looks_then c.in_ok-size.ensures.looks c.in_ok-have_room.ensures.looks).same (c.in_ok-cut_file.ensures (the_file 0 [])).steps.framed.same
 
-pub returns-in-Err-clause-same : goal.returns-in-Err-clause-same
-returns-in-Err-clause-same g c = same_then (looks_then c.in_ok-size.ensures.looks c.in_ok-have_room.ensures.looks).same (c.in-Err.ensures (the_file 0 [])).steps.framed.same
+pub returns-in_err-cut_file-clause-same : goal.returns-in_err-cut_file-clause-same
+returns-in_err-cut_file-clause-same g c = same_then (looks_then c.in_ok-size.ensures.looks c.in_ok-have_room.ensures.looks).same (c.in_err-cut_file.ensures (the_file 0 [])).steps.framed.same
 
-pub returns-in-Ok-true-clause-counted : goal.returns-in-Ok-true-clause-counted
-returns-in-Ok-true-clause-counted g c =
+pub returns-clause-counted : goal.returns-clause-counted
+returns-clause-counted g c =
     let name = c.args.name.now in
     let empty : empties c.args.flags ≡ true = is_set (bit_and c.args.flags 2) c.if-flags-eq0.false in
     let found = c.in_ok-size.ensures in
@@ -112,10 +109,10 @@ returns-in-Ok-true-clause-counted g c =
     let looked = c.in_ok-have_room.ensures in
     let does = emptied_step name c.args.flags c.requires.named c.args.fd c.requires.slot c.args.id c.requires.found stat found.told empty c.if-size-eq0.false (looked_back (TellsRoom stat.size 0 (Ok tt)) found.looks looked.told) in
     let file = the_file c.args.id (table_of c.args.v.now.geometry (g.N.NorState.bytes c.args.v.now.nor.now)) in
-    λ into. stands_done does (looks_then found.looks looked.looks) _ (ends_true (rw c.in-Ok-true.field-0-test at (c.in-Ok-true.ensures file))).steps
+    λ into. stands_done does (looks_then found.looks looked.looks) _ (ends_true (rw c.if-not-branch.false at (c.in_ok-cut_file.ensures file))).steps
 
-pub returns-in-Ok-false-clause-counted : goal.returns-in-Ok-false-clause-counted
-returns-in-Ok-false-clause-counted g c =
+pub returns-then-not-branch-clause-counted : goal.returns-then-not-branch-clause-counted
+returns-then-not-branch-clause-counted g c =
     let name = c.args.name.now in
     let empty : empties c.args.flags ≡ true = is_set (bit_and c.args.flags 2) c.if-flags-eq0.false in
     let found = c.in_ok-size.ensures in
@@ -123,10 +120,10 @@ returns-in-Ok-false-clause-counted g c =
     let looked = c.in_ok-have_room.ensures in
     let does = emptied_step name c.args.flags c.requires.named c.args.fd c.requires.slot c.args.id c.requires.found stat found.told empty c.if-size-eq0.false (looked_back (TellsRoom stat.size 0 (Ok tt)) found.looks looked.told) in
     let file = the_file c.args.id (table_of c.args.v.now.geometry (g.N.NorState.bytes c.args.v.now.nor.now)) in
-    λ into. stands_cornered does (looks_then found.looks looked.looks) _ (rw c.in-Ok-false.field-0-test at (c.in-Ok-false.ensures file).steps)
+    λ into. stands_cornered does (looks_then found.looks looked.looks) _ (rw c.if-not-branch.true at (c.in_ok-cut_file.ensures file).steps)
 
-pub returns-in-Err-clause-counted : goal.returns-in-Err-clause-counted
-returns-in-Err-clause-counted g c =
+pub returns-in_err-cut_file-clause-counted : goal.returns-in_err-cut_file-clause-counted
+returns-in_err-cut_file-clause-counted g c =
     let name = c.args.name.now in
     let empty : empties c.args.flags ≡ true = is_set (bit_and c.args.flags 2) c.if-flags-eq0.false in
     let found = c.in_ok-size.ensures in
@@ -134,4 +131,4 @@ returns-in-Err-clause-counted g c =
     let looked = c.in_ok-have_room.ensures in
     let does = emptied_step name c.args.flags c.requires.named c.args.fd c.requires.slot c.args.id c.requires.found stat found.told empty c.if-size-eq0.false (looked_back (TellsRoom stat.size 0 (Ok tt)) found.looks looked.told) in
     let file = the_file c.args.id (table_of c.args.v.now.geometry (g.N.NorState.bytes c.args.v.now.nor.now)) in
-    rw c.failed_as.ensures (λ into. stands_broken does (looks_then found.looks looked.looks) c.in-Err.why (fails_true (c.in-Err.ensures file)).steps)
+    rw (err_is c.from_residual-in_err-cut_file.result c.from_residual-in_err-cut_file.ensures.1) (λ into. stands_broken does (looks_then found.looks looked.looks) c.in_err-cut_file.field-0.0 (fails_true (c.in_err-cut_file.ensures file)).steps)
