@@ -156,10 +156,7 @@ impl<'b, N: Nor> Volume<'b, N> {
         ensures told { (s : State) → s.slots ≡ descriptors self.now.slots.now → id_at fd s ≡ result }
         ensures error { IfErr result (λ why. why ≡ FsErr.BadDescriptor) }
     {
-        match opened(self.slots, fd) {
-            Ok(slot) => Ok(slot.id),
-            Err(why) => Err(why),
-        }
+        Ok(opened(self.slots, fd)?.id)
     }
 
     // Maps the file of an id, where nothing waits and no bytes are lent. `had` says whether anything waited when the call began.

@@ -73,10 +73,7 @@ fn scrub_on<N: Nor>(
 fn answer_of(step: Result<Scrub, StepErr>) -> Result<Scrub, FsErr>
     ensures { result ≡ told_as step }
 {
-    match step {
-        Ok(scrub) => Ok(scrub),
-        Err(why) => Err(FsErr::from(why)),
-    }
+    Ok(step?)
 }
 
 // Where a scrub leads that a checked volume did. `wrote` says whether a program or an erase was asked for.
@@ -132,14 +129,10 @@ impl<'b, N: Nor> Volume<'b, N> {
         ensures { Scrubs limit self.old self.new result }
     {
         let was = self.map;
-        match self.begin() {
-            Err(why) => Err(why),
-            Ok(had) => {
-                let result = self.scrub_settled(had, limit);
-                self.refill(was);
-                result
-            }
-        }
+        let had = self.begin()?;
+        let result = self.scrub_settled(had, limit);
+        self.refill(was);
+        result
     }
 
     /// Moves the least worn block in use, where three blocks are free and each of them is more worn by the limit, 1 to 32767 erase

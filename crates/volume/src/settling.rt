@@ -132,13 +132,9 @@ impl<'b, N: Nor> Volume<'b, N> {
             return Err(FsErr::Failed);
         }
         let was = self.map;
-        match self.begin() {
-            Ok(had) => {
-                self.refill(was);
-                Ok(had)
-            }
-            Err(why) => Err(why),
-        }
+        let had = self.begin()?;
+        self.refill(was);
+        Ok(had)
     }
 
     /// Puts the written bytes that wait onto the chip. Refused are a volume that takes no calls (`Failed`), and a device that fails:
@@ -149,9 +145,7 @@ impl<'b, N: Nor> Volume<'b, N> {
         ensures closed { takes_calls self.old ≡ false → (result ≡ Err FsErr.Failed) × (self.new ≡ self.old) }
         ensures map { (m : Moment) → takes_calls self.old ≡ true → Holds self.old m → KeepsMap self.old self.new (breaks (told (λ done. Fine) result)) }
     {
-        match self.settled() {
-            Ok(_) => Ok(()),
-            Err(why) => Err(why),
-        }
+        self.settled()?;
+        Ok(())
     }
 }

@@ -73,10 +73,8 @@ impl<'b, N: Nor> Volume<'b, N> {
         let g = self.geometry;
         let work = &mut *self.work;
         let (work, rows) = work.split_at_mut(g.scratch_need() as usize);
-        match space_on(g, self.nor, work, rows, self.cache, &mut self.counted) {
-            Ok(space) => Ok(space),
-            Err(Failed) => Err(FsErr::DeviceFault),
-        }
+        let space = space_on(g, self.nor, work, rows, self.cache, &mut self.counted)?;
+        Ok(space)
     }
 
     /// What is free on the chip, counted block by block: written bytes that wait are not on it, and go on waiting. Refused is `Failed`,

@@ -87,10 +87,7 @@ impl<'b, N: Nor> Volume<'b, N> {
     pub fn tell(&self, fd: u16) -> Result<u32, FsErr>
         ensures { result ≡ offset_of (open_at (descriptors self.now.slots.now) fd) }
     {
-        match opened(self.slots, fd) {
-            Ok(slot) => Ok(slot.offset),
-            Err(why) => Err(why),
-        }
+        Ok(opened(self.slots, fd)?.offset)
     }
 
     /// Cuts the file of a descriptor to a size in bytes, which is no larger than the one it has; descriptors beyond its end stand at it.
