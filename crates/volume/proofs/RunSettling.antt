@@ -140,6 +140,11 @@ module _ {N : Type 0} {nor : NorOf N} where
       WritesOn nor old.geometry id at bytes f old.nor.now new.nor.now new.wrote old.counted new.counted result
   writes_on call fresh = let step = call.steps in record { untouched = step.framed.untouched fresh; cause = step.cause; means = step.means; cuts = step.cuts; upkeep = step.upkeep; counted = step.stands; ends = step.ends; turns = call.cleans }
 
+  -- .. where another name stands for the device after it
+  pub writes_at : {g : Geometry} {id at : ℕ} {bytes : List ℕ} {f : File} {old new d : N} {wrote stood stands : Bool} {result : Result (Unit {0}) FsErr} → WritesOn nor g id at bytes f old new wrote stood stands result → new ≡ d →
+      WritesOn nor g id at bytes f old d wrote stood stands result
+  writes_at {g} {id} {at} {bytes} {f} {old} {new} {d} {wrote} {stood} {stands} {result} call is = subst (λ (k : N). WritesOn nor g id at bytes f old k wrote stood stands result) is call
+
   -- nothing waits
   pub settles_none : (v : Volume N nor) → (memory v).run ≡ None → Settles v v (Ok false)
   settles_none v none =

@@ -107,7 +107,8 @@ module _ {N : Type 0} {nor : NorOf N} where
     -- where nothing waits a call that only looks asks for no program and no erase, and one that only looks at descriptors leaves them
     pub looks : is_change ask ≡ false → HasNone old → OnlyReads nor old.nor.now new.nor.now × (new.stage ≡ old.stage)
     pub keeps : keeps_slots ask ≡ true → new.slots.now ≡ old.slots.now
-    -- where nothing waits, blocks are cleaned before all else: none where the index page is had that the call takes, and each where it isn't
+    -- where nothing waits, a call that is neither a write nor garbage collection has a first part in which it cleans blocks: none there where the
+    -- index page that it takes is had and two blocks are free, and each where that isn't so
     pub cleans : (m : Moment) → takes_calls old ≡ true → HasNone old → Holds old m → is_write ask ≡ false → ask ≢ Collects →
         CleansFor nor old.geometry (index_taken ask) 0 old.nor.now new.nor.now (reply ≡ Refuses DeviceFault)
     -- and a write cleans in turns, one for each step that it publishes at most, and one more where the tail of its file is to be made ready

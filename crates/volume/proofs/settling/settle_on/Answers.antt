@@ -1,5 +1,5 @@
 use Rattle.std.proofs.Common.{◌≡◌, rules, refl, take}
-use Rattle.volume.proofs.RunSettling.{any_file, writes_on}
+use Rattle.volume.proofs.RunSettling.{any_file, writes_on, writes_at}
 use Rattle.volume.proofs.settling.settle_on.Goals as goal
 
 pub returns-clause-kept : goal.returns-clause-kept
@@ -20,7 +20,7 @@ returns-clause-asked g c = λ w. let same = (c.write_all-result.ensures any_file
 pub returns-clause-writes : goal.returns-clause-writes
 returns-clause-writes g c =
     let kept : c.kept.result.now ≡ take c.args.held.now.taken c.args.bytes.now = rw c.requires.used at c.kept.ensures in
-    λ f. let step = rw kept at (c.write_all-result.ensures f) in search (rules, writes_on step refl)
+    λ f. let step = rw kept at (c.write_all-result.ensures f) in writes_at (writes_on step refl) (search rules)
 
 pub returns-clause-table : goal.returns-clause-table
 returns-clause-table g c = λ on. let same = (c.write_all-result.ensures any_file).steps.framed.same in search (rules, same, c.write_all-result.new.v.table on)
