@@ -174,6 +174,14 @@ pub(crate) fn row_at(rows: &[u8], block: u16) -> BlockCounts
     }
 }
 
+// Whether a block takes a page of a kind by its row. (That of a block without free entries is told by one word.)
+fn is_open(rows: &[u8], block: u16, kind: Kind, entries: u32) -> bool
+    requires { 16 * block + 10 ≤ length rows.now }
+    ensures { result ≡ the_takes (row_of rows.now block) kind entries }
+{
+    read_word(rows, 16 * usize::from(block) + 6) != 0 && takes(&row_at(rows, block), kind, entries)
+}
+
 // The first block from `from` on that takes a page of a kind by its row, or the number of blocks.
 fn next_open(rows: &[u8], g: &Geometry, from: u16, kind: Kind) -> u16
     requires room { rows_need g.now ≤ length rows.now }
@@ -183,7 +191,7 @@ fn next_open(rows: &[u8], g: &Geometry, from: u16, kind: Kind) -> u16
     let entries = g.entries();
     let blocks = g.blocks() as u16;
     let mut block = from;
-    'scan: while block < blocks && !takes(&row_at(rows, block), kind, entries) {
+    'scan: while block < blocks && !is_open(rows, block, kind, entries) {
         block += 1;
     }
     block
@@ -195,7 +203,7 @@ fn first_now(rows: &[u8], g: &Geometry, first: u16, block: u16, kind: Kind) -> u
     requires block { block < g.now.blocks }
     ensures { IsFirstBut g.now.blocks (row_takes g.now rows.now kind) block first → IsFirst g.now.blocks (row_takes g.now rows.now kind) result }
 {
-    if takes(&row_at(rows, block), kind, g.entries()) {
+    if is_open(rows, block, kind, g.entries()) {
         return first.min(block);
     }
     if block != first {
