@@ -23,11 +23,11 @@ use memchr::memchr;
 use nor_core::{Failed, Nor, NorState};
 use page_layout::{FREE, INDEX_BIT, PageHeader};
 
-// The mark of the header page of a file that isn't whole.
-const BROKEN: u8 = 1;
+/// The mark of the header page of a file that isn't whole.
+pub(crate) const BROKEN: u8 = 1;
 
-// The mark of the header page of a whole file, where another file has its name.
-const DOUBLED: u8 = 2;
+/// The mark of the header page of a whole file, where another file has its name.
+pub(crate) const DOUBLED: u8 = 2;
 
 // The least mark of the header page of a file that is in the table.
 const LISTED: u8 = 3;

@@ -4,3 +4,4 @@ pub mod Found
 pub mod Placing
 pub mod Pieces
 pub mod Files
+pub mod Sound

@@ -2,7 +2,6 @@ ghost use Rattle.std.specs.Prelude.{◌≡◌, ◌<◌, ◌≤◌, ◌++◌, len
 ghost use Rattle.std.specs.Option.{option_map, IfSome};
 ghost use Rattle.geometry.specs.Numbers.{check_need};
 ghost use Rattle.nor_core.specs.Count.{Rose};
-ghost use Rattle.image_model.specs.Tables.{damaged_of};
 ghost use Rattle.flash_view.specs.Same.{IsSameView};
 ghost use Rattle.file_find.specs.Marks.{IsMarked};
 ghost use Rattle.image_tool.specs.Lists.{list_of};
@@ -12,7 +11,7 @@ ghost use Rattle.image_tool.specs.Saying.{OnlySays, SaysFront};
 use crate::damaged::say_next_damaged;
 use crate::error::ToolErr;
 use crate::records::say_next_record;
-use file_find::survey;
+use file_find::{is_sound, survey};
 use flash_view::View;
 use nor_core::{Board, Failed, NorState};
 
@@ -85,6 +84,26 @@ pub(crate) fn list_part<B: Board>(
     Ok(count)
 }
 
+// Says the lines of the damaged ids in order, by right marks, and answers their number.
+fn list_damaged<B: Board>(v: &mut View<'_, B>, marks: &[u8], line: &mut [u8]) -> Result<u32, Failed>
+    requires room { check_need v.old.geometry ≤ length marks.now }
+    requires marked { B.tells v.old.nor.now → IsMarked v.old.geometry (B.bytes v.old.nor.now) marks.now }
+    requires line { 12288 ≤ length line.old }
+    ensures cause { OnErr result (Rose (B.faults v.old.nor.now) (B.faults v.new.nor.now)) }
+    ensures same { IsSameView v.old v.new }
+    ensures says { OnlySays B.NorState v.old.nor.now v.new.nor.now (text_of Part.Damaged v.old.geometry (B.bytes v.old.nor.now)) }
+    ensures count { B.tells v.old.nor.now → IfOk result (λ count. count ≡ length (lines_of Part.Damaged v.old.geometry (B.bytes v.old.nor.now))) }
+    ensures whole { B.tells v.old.nor.now →
+        OnOk result (B.said v.new.nor.now ≡ B.said v.old.nor.now ++ text_of Part.Damaged v.old.geometry (B.bytes v.old.nor.now)) }
+    ensures front { B.tells v.old.nor.now →
+        OnErr result (SaysFront B.NorState v.old.nor.now v.new.nor.now (text_of Part.Damaged v.old.geometry (B.bytes v.old.nor.now))) }
+{
+    if is_sound(v, marks) {
+        return Ok(0);
+    }
+    list_part(v, marks, Part::Damaged, line)
+}
+
 // Says the list of a volume, by right marks, and answers the number of damaged ids.
 #[tactic(auto, using(flash_view::proofs::Looking::same_then))]
 fn list_marked<B: Board>(v: &mut View<'_, B>, marks: &[u8], line: &mut [u8]) -> Result<u32, Failed>
@@ -99,7 +118,7 @@ fn list_marked<B: Board>(v: &mut View<'_, B>, marks: &[u8], line: &mut [u8]) -> 
     ensures front { B.tells v.old.nor.now → OnErr result (SaysFront B.NorState v.old.nor.now v.new.nor.now (list_of v.old.geometry (B.bytes v.old.nor.now))) }
 {
     list_part(v, marks, Part::Files, line)?;
-    list_part(v, marks, Part::Damaged, line)
+    list_damaged(v, marks, line)
 }
 
 /// Says the list of a volume: a line `ID TYPE SIZE NAME` for each file of the table in order of ids, the name

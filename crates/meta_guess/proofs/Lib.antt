@@ -5,3 +5,4 @@ mod Found
 mod Needs
 mod Choosing
 mod Reading
+mod Sound

@@ -1,5 +1,5 @@
 -- What a volume holds by different numbers of meta bytes, and which number reads most.
-use Rattle.std.specs.Prelude.{ℕ, ◌≡◌, ◌+◌, ◌*◌, ◌<◌, ◌≤◌, List, length}
+use Rattle.std.specs.Prelude.{ℕ, ◌≡◌, ◌+◌, ◌*◌, ◌<◌, ◌≤◌, List, [], length, Option, Some, None}
 use Rattle.geometry.specs.declared.geometry.Geometry.{Geometry}
 use Rattle.geometry.specs.Numbers.{page_count, IsOf}
 use Rattle.nor_core.specs.Count.{Rose}
@@ -12,6 +12,11 @@ use Rattle.meta_guess.specs.declared.counts.Guess.{Guess}
 pub record CountsOf (g : Geometry) (image : List ℕ) (counts : Counts) : Type 0 where
   pub whole : counts.whole ≡ length (table_of g image)
   pub damaged : counts.damaged ≡ length (damaged_of g image)
+
+-- the same, or none where no id is damaged
+abbrev pub CountsIf : Geometry → List ℕ → Option Counts → Type 0
+CountsIf g image None = damaged_of g image ≡ []
+CountsIf g image (Some counts) = CountsOf g image counts
 
 -- the same numbers but for the meta bytes
 abbrev pub SameBut : Geometry → Geometry → Type 0
@@ -43,6 +48,11 @@ pub record IsGuess (g : Geometry) (image : List ℕ) (guess : Guess) : Type 0 wh
   pub fewest : (h : Geometry) → SameBut g h → guess.best.damaged ≤ length (damaged_of h image)
   pub stays : guess.given.damaged ≡ 0 → guess.meta ≡ g.meta
   pub least : (h : Geometry) → 0 < guess.given.damaged → SameBut g h → h.meta < guess.meta → length (table_of h image) < guess.best.whole
+
+-- the same, or none where no id is damaged
+abbrev pub GuessIf : Geometry → List ℕ → Option Guess → Type 0
+GuessIf g image None = damaged_of g image ≡ []
+GuessIf g image (Some guess) = IsGuess g image guess
 
 -- with lent bytes for a copy of each page, and where no fault was counted, the device was asked for no more reads than it has pages
 pub record ReadsOnce {D : Type 0} (nor : NorOf D) (g : Geometry) (cache : ℕ) (old new : D) : Type 0 where

@@ -5,10 +5,10 @@ ghost use Rattle.nor_core.specs.Device.{OnlyReads};
 ghost use Rattle.image_model.specs.Tables.{table_of, damaged_of};
 ghost use Rattle.flash_view.specs.Same.{OnlyLooks};
 ghost use Rattle.file_find.specs.Marks.{IsMarked};
-ghost use Rattle.meta_guess.specs.Guesses.{CountsOf, ReadsOnce};
+ghost use Rattle.meta_guess.specs.Guesses.{CountsOf, CountsIf, ReadsOnce};
 
 use crate::counts::Counts;
-use file_find::{next_damaged, next_file, survey};
+use file_find::{is_sound, next_damaged, next_file, survey};
 use flash_view::View;
 use geometry::Geometry;
 use nor_core::{Failed, Nor, NorState};
@@ -31,7 +31,7 @@ fn count_whole<N: Nor>(v: &mut View<'_, N>, marks: &[u8]) -> Result<u32, Failed>
     Ok(count)
 }
 
-// How many ids are damaged, by right marks.
+// How many ids are damaged, by right marks. Where none is, no id is looked at.
 #[tactic(auto, using(flash_view::proofs::Looking::looks_then))]
 fn count_damaged<N: Nor>(v: &mut View<'_, N>, marks: &[u8]) -> Result<u32, Failed>
     requires room { check_need v.old.geometry ≤ length marks.now }
@@ -40,6 +40,9 @@ fn count_damaged<N: Nor>(v: &mut View<'_, N>, marks: &[u8]) -> Result<u32, Faile
     ensures looks { OnlyLooks v.old v.new }
     ensures told { N.tells v.old.nor.now → IfOk result (λ count. count ≡ length (damaged_of v.old.geometry (N.bytes v.old.nor.now))) }
 {
+    if is_sound(v, marks) {
+        return Ok(0);
+    }
     let mut after = 0;
     let mut count = 0;
     'ids: while let Some(next) = next_damaged(v, marks, after)? {
@@ -61,6 +64,36 @@ fn count_marked<N: Nor>(v: &mut View<'_, N>, marks: &[u8]) -> Result<Counts, Fai
     let whole = count_whole(v, marks)?;
     let damaged = count_damaged(v, marks)?;
     Ok(Counts { whole, damaged })
+}
+
+// Both, by right marks, where an id is damaged.
+#[tactic(auto, using(flash_view::proofs::Looking::looks_then, flash_view::proofs::Looking::looks_none))]
+fn count_marked_if<N: Nor>(v: &mut View<'_, N>, marks: &[u8]) -> Result<Option<Counts>, Failed>
+    requires room { check_need v.old.geometry ≤ length marks.now }
+    requires marked { N.tells v.old.nor.now → IsMarked v.old.geometry (N.bytes v.old.nor.now) marks.now }
+    ensures cause { OnErr result (Rose (N.faults v.old.nor.now) (N.faults v.new.nor.now)) }
+    ensures looks { OnlyLooks v.old v.new }
+    ensures told { N.tells v.old.nor.now → IfOk result (CountsIf v.old.geometry (N.bytes v.old.nor.now)) }
+{
+    if is_sound(v, marks) {
+        return Ok(None);
+    }
+    match count_marked(v, marks) {
+        Ok(counts) => Ok(Some(counts)),
+        Err(why) => Err(why),
+    }
+}
+
+// Both, of a view, where an id is damaged.
+#[tactic(auto, using(flash_view::proofs::Looking::looks_then))]
+fn count_view_if<N: Nor>(v: &mut View<'_, N>, marks: &mut [u8]) -> Result<Option<Counts>, Failed>
+    requires room { check_need v.old.geometry ≤ length marks.old }
+    ensures cause { OnErr result (Rose (N.faults v.old.nor.now) (N.faults v.new.nor.now)) }
+    ensures looks { OnlyLooks v.old v.new }
+    ensures told { N.tells v.old.nor.now → IfOk result (CountsIf v.old.geometry (N.bytes v.old.nor.now)) }
+{
+    survey(v, marks)?;
+    count_marked_if(v, marks)
 }
 
 // Both, of a view.
@@ -97,4 +130,26 @@ pub fn count_files<N: Nor>(
 {
     let mut v = View::new(*g, nor, work, &mut [], cache);
     count_view(&mut v, marks)
+}
+
+/// The same, where an id is damaged: else the files aren't counted, and the answer is None.
+pub fn count_damaged_files<N: Nor>(
+    g: &Geometry,
+    nor: &mut N,
+    work: &mut [u8],
+    cache: &mut [u8],
+    marks: &mut [u8],
+) -> Result<Option<Counts>, Failed>
+    requires unit { N.unit nor.old ≡ g.now.phys }
+    requires fits { g.now.blocks * g.now.block ≤ N.size nor.old }
+    requires work { scratch_need g.now ≤ length work.old }
+    requires cache { cache_need g.now ≤ length cache.old }
+    requires check { check_need g.now ≤ length marks.old }
+    ensures cause { OnErr result (Rose (N.faults nor.old) (N.faults nor.new)) }
+    ensures reads { OnlyReads N.NorState nor.old nor.new }
+    ensures told { N.tells nor.old → IfOk result (CountsIf g.now (N.bytes nor.old)) }
+    ensures few { ReadsOnce N.NorState g.now (length cache.old) nor.old nor.new }
+{
+    let mut v = View::new(*g, nor, work, &mut [], cache);
+    count_view_if(&mut v, marks)
 }

@@ -1,10 +1,10 @@
-ghost use Rattle.std.specs.Prelude.{◌≡◌, ◌*◌, ◌≤◌, length, nat_lt, OnErr, IfOk, if◌then◌else◌};
+ghost use Rattle.std.specs.Prelude.{◌≡◌, ◌*◌, ◌≤◌, length, nat_lt, OnErr, IfOk, None, if◌then◌else◌};
 ghost use Rattle.geometry.specs.Numbers.{scratch_need, cache_need, check_need};
 ghost use Rattle.nor_core.specs.Count.{Rose};
 ghost use Rattle.nor_core.specs.Device.{OnlyReads};
-ghost use Rattle.meta_guess.specs.Guesses.{CountsBy, IsBest, IsGuess, IsMeta, ReadsOnce};
+ghost use Rattle.meta_guess.specs.Guesses.{CountsBy, GuessIf, IsBest, IsGuess, IsMeta, ReadsOnce};
 
-use crate::counting::count_files;
+use crate::counting::{count_damaged_files, count_files};
 use crate::counts::{Counts, Guess};
 use geometry::Geometry;
 use nor_core::{Failed, Nor, NorState};
@@ -115,4 +115,36 @@ pub fn guess_meta<N: Nor>(
     }
     let (meta, best) = best_meta(g, nor, work, cache, marks)?;
     Ok(Guess { given, meta, best })
+}
+
+/// The same, where an id is damaged: else no other number can read more, the files aren't counted, and the answer is None.
+pub fn guess_damaged_meta<N: Nor>(
+    g: &Geometry,
+    nor: &mut N,
+    work: &mut [u8],
+    cache: &mut [u8],
+    marks: &mut [u8],
+) -> Result<Option<Guess>, Failed>
+    requires unit { N.unit nor.old ≡ g.now.phys }
+    requires fits { g.now.blocks * g.now.block ≤ N.size nor.old }
+    requires work { scratch_need g.now ≤ length work.old }
+    requires cache { cache_need g.now ≤ length cache.old }
+    requires check { check_need g.now ≤ length marks.old }
+    ensures cause { OnErr result (Rose (N.faults nor.old) (N.faults nor.new)) }
+    ensures reads { OnlyReads N.NorState nor.old nor.new }
+    ensures told { N.tells nor.old → IfOk result (GuessIf g.now (N.bytes nor.old)) }
+    ensures few { IfOk result (λ guess. guess ≡ None → ReadsOnce N.NorState g.now (length cache.old) nor.old nor.new) }
+{
+    let Some(counts) = count_damaged_files(g, nor, work, cache, marks)? else {
+        return Ok(None);
+    };
+    if counts.damaged == 0 {
+        return Ok(None);
+    }
+    let (meta, best) = best_meta(g, nor, work, cache, marks)?;
+    Ok(Some(Guess {
+        given: counts,
+        meta,
+        best,
+    }))
 }

@@ -3,7 +3,7 @@ use crate::words::{foretells, word};
 use call_script::parse_number;
 use flash_view::View;
 use geometry::{Geometry, MagicKind};
-use meta_guess::{Guess, count_files, guess_meta};
+use meta_guess::{Guess, count_files, guess_damaged_meta};
 use nor_core::{Failed, Nor};
 use std::fmt;
 use tool_parts::Buffers;
@@ -128,8 +128,14 @@ fn look_at<N: Nor>(
             better: None,
         }));
     }
-    let guess = guess_meta(g, nor, lent.work, lent.cache, lent.check)?;
-    Ok(Some(seen_by(g.meta(), guess, removes)))
+    let found = guess_damaged_meta(g, nor, lent.work, lent.cache, lent.check)?;
+    Ok(Some(match found {
+        Some(guess) => seen_by(g.meta(), guess, removes),
+        None => Seen {
+            damaged: 0,
+            better: None,
+        },
+    }))
 }
 
 // Whether the words are a command that isn't refused, and is guarded.

@@ -30,13 +30,13 @@ returns-clause-says g c =
     let damaged = damage_lines (damaged_of v.geometry image) in
     let e : text_of Damaged mid.geometry (g.B.NorState.bytes mid.nor.now) ≡ damaged = rw (first.same.geometry, first.says.bytes) (damages_text v.geometry image) in
     let says = rw (files_text v.geometry image) at first.says in
-    says_behind files damaged says (λ tells. rw (files_text v.geometry image) at (c.in_ok-list_part.ensures.whole tells)) (says_same _ damaged (λ tells. e) c.list_part-2.ensures.says)
+    says_behind files damaged says (λ tells. rw (files_text v.geometry image) at (c.in_ok-list_part.ensures.whole tells)) (says_same _ damaged (λ tells. e) c.list_damaged.ensures.says)
 
 pub returns-clause-count : goal.returns-clause-count
 returns-clause-count g c = λ tells.
     let v = c.args.v.now in
     let first = c.list_part.ensures in
-    (rw (first.same.geometry, first.says.bytes, damages_many v.geometry (g.B.NorState.bytes v.nor.now)) at c.list_part-2.ensures.count) (first.says.cuts.told tells)
+    (rw (first.same.geometry, first.says.bytes, damages_many v.geometry (g.B.NorState.bytes v.nor.now)) at c.list_damaged.ensures.count) (first.says.cuts.told tells)
 
 pub returns-clause-whole : goal.returns-clause-whole
 returns-clause-whole g c = λ tells.
@@ -46,8 +46,8 @@ returns-clause-whole g c = λ tells.
     let files = record_lines (table_of v.geometry image) in
     let damaged = damage_lines (damaged_of v.geometry image) in
     let whole = rw (files_text v.geometry image) at (c.in_ok-list_part.ensures.whole tells) in
-    on_ok_weaker c.list_part-2.result (λ said. said ∙ ap (λ (l : List ℕ). l ++ damaged) whole ∙ append_assoc (g.B.NorState.said v.nor.now) files damaged)
-    ((rw (first.same.geometry, first.says.bytes, damages_text v.geometry image) at c.list_part-2.ensures.whole) (first.says.cuts.told tells))
+    on_ok_weaker c.list_damaged.result (λ said. said ∙ ap (λ (l : List ℕ). l ++ damaged) whole ∙ append_assoc (g.B.NorState.said v.nor.now) files damaged)
+    ((rw (first.same.geometry, first.says.bytes, damages_text v.geometry image) at c.list_damaged.ensures.whole) (first.says.cuts.told tells))
 
 pub returns-clause-front : goal.returns-clause-front
 returns-clause-front g c = λ tells.
@@ -57,8 +57,8 @@ returns-clause-front g c = λ tells.
     let files = record_lines (table_of v.geometry image) in
     let damaged = damage_lines (damaged_of v.geometry image) in
     let whole = rw (files_text v.geometry image) at (c.in_ok-list_part.ensures.whole tells) in
-    on_err_weaker c.list_part-2.result (λ front. front_more (record { part = files; tail = []; said = whole; text_is = ap (λ (l : List ℕ). files ++ l) (sym (append-nil damaged)) }) front)
-    ((rw (first.same.geometry, first.says.bytes, damages_text v.geometry image) at c.list_part-2.ensures.front) (first.says.cuts.told tells))
+    on_err_weaker c.list_damaged.result (λ front. front_more (record { part = files; tail = []; said = whole; text_is = ap (λ (l : List ℕ). files ++ l) (sym (append-nil damaged)) }) front)
+    ((rw (first.same.geometry, first.says.bytes, damages_text v.geometry image) at c.list_damaged.ensures.front) (first.says.cuts.told tells))
 
 pub returns-clause-same : goal.returns-clause-same
-returns-clause-same g c = same_then c.list_part.ensures.same c.list_part-2.ensures.same
+returns-clause-same g c = same_then c.list_part.ensures.same c.list_damaged.ensures.same

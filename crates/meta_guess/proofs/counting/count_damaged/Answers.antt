@@ -1,4 +1,5 @@
-use Rattle.std.proofs.Common.{◌≡◌, arith}
+use Rattle.std.proofs.Common.{◌≡◌, ℕ, List, length, ap, sym, arith}
+use Rattle.image_model.specs.declared.damage.Damage.{Damage}
 use Rattle.flash_view.proofs.Looking.{looks_none, looks_then}
 use Rattle.file_find.specs.Listing.{damaged_above}
 use Rattle.meta_guess.proofs.Found.{damaged_first, damaged_more, damaged_last}
@@ -36,3 +37,6 @@ returns-clause-told g c = λ tells.
 
 pub returns-clause-looks : goal.returns-clause-looks
 returns-clause-looks g c = looks_then c.ids.invariant.looks c.in_ok-next.ensures.looks
+
+pub returns-then-is_sound-clause-told : goal.returns-then-is_sound-clause-told
+returns-then-is_sound-clause-told g c = λ tells. sym (ap (λ (ds : List (ℕ × Damage)). length ds) (c.is_sound.ensures tells c.if-is_sound.true))
