@@ -12,6 +12,7 @@ use Rattle.table_model.specs.Steps.{part_ends, open_file}
 use Rattle.image_model.specs.Tidy.{HasReserve}
 use Rattle.renew_laws.specs.Tails.{IsTailReady}
 use Rattle.block_gc.specs.RoomMade.{SweptTo, NoneIs, IsReady}
+use Rattle.trim_laws.specs.Wear.{SameWear}
 use Rattle.flash_view.specs.declared.view.View.{View}
 use Rattle.flash_view.specs.Steps.{Step, Errors, Stepped}
 use Rattle.file_calls.specs.Collecting.{RoomCut}
@@ -32,6 +33,11 @@ pub record SweptFor (g : Geometry) (index pages : ℕ) (was now : List ℕ) : Ty
   pub swept : SweptTo g was now
   pub needed : NoneIs (λ image. IsReady g image index pages) swept.through
 
+-- Two free blocks stay free, and no block is made fresh.
+pub record LeavesBlocks (g : Geometry) (was image : List ℕ) : Type 0 where
+  pub reserve : HasReserve g was → HasReserve g image
+  pub wear : SameWear g was image
+
 -- A call cleans blocks for so many pages of each kind before all else: up to where the device is `mid`.
 pub record CleansFor {D : Type 0} (nor : NorOf D) (g : Geometry) (index pages : ℕ) (old new : D) (broken : Type 0) : Type 0 where
   pub mid : D
@@ -41,8 +47,8 @@ pub record CleansFor {D : Type 0} (nor : NorOf D) (g : Geometry) (index pages : 
   pub idle : IsReady g (nor.bytes old) index pages → OnlyReads nor old mid
   -- each cleaning begins where that isn't so, where the call isn't broken off
   pub needed : ¬ broken → SweptFor g index pages (nor.bytes old) (nor.bytes mid)
-  -- from there on two blocks stay free where two are, at each cut
-  pub rest : Changes nor mid new (λ was image. HasReserve g was → HasReserve g image)
+  -- from there on two blocks stay free where two are, and no block is made fresh, at each cut
+  pub rest : Changes nor mid new (LeavesBlocks g)
 
 -- A call over a view took that step, and cleaned blocks for so many pages of each kind before it.
 pub record Taken {N T E : Type 0} {nor : NorOf N} (errors : Errors E) (index pages : ℕ) (old new : View N nor) (result : Result T E)

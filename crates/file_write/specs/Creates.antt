@@ -11,6 +11,7 @@ use Rattle.image_model.specs.Kinds.{is_data_block}
 use Rattle.image_model.specs.Collect.{are_had}
 use Rattle.flash_view.specs.Found.{has_header}
 use Rattle.image_laws.specs.NewFile.{IsFreePage, IsBeforeOrAfter}
+use Rattle.trim_laws.specs.Wear.{SameWear}
 use Rattle.flash_view.specs.Steps.{Step}
 
 -- The image is tidy with its reserve, the id and the name are unused, and an index page is to be had.
@@ -21,11 +22,13 @@ pub record CanCreate (g : Geometry) (image : List ℕ) (id : ℕ) (name : List �
   pub new_name : has_name name (table_of g image) ≡ false
   pub had : are_had g image 1 0 ≡ true
 
--- A cut in a create leaves an image that is sound with its reserve, and the table is the one before or the one with the new file.
+-- A cut in a create leaves an image that is sound with its reserve, where no block is made fresh, and the table is the one before or the one with
+-- the new file.
 pub record CreateCut (g : Geometry) (was : List ℕ) (id : ℕ) (name image : List ℕ) : Type 0 where
   pub sound : IsSound g image was
   pub table : IsBeforeOrAfter g was (new_file g id name) image
   pub reserve : HasReserve g image
+  pub wear : SameWear g was image
 
 -- A create that is done leaves an image that is tidy with its reserve, and the new file is in its table.
 pub record Created (g : Geometry) (was : List ℕ) (id : ℕ) (name now : List ℕ) : Type 0 where

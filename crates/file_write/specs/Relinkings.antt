@@ -21,6 +21,7 @@ use Rattle.renew_laws.specs.Overwrite.{IsPatched}
 use Rattle.renew_laws.specs.Primed.{Primed}
 use Rattle.renew_laws.specs.Reserve.{CanTake}
 use Rattle.renew_laws.specs.Tails.{IsTailReady, KeepsTails}
+use Rattle.trim_laws.specs.Wear.{SameWear}
 use Rattle.flash_view.specs.DataPages.{data_number_of}
 use Rattle.flash_view.specs.Steps.{Step}
 use Rattle.page_renew.specs.PageSteps.{StepCut, StepDone}
@@ -81,6 +82,7 @@ pub record HasCopy (g : Geometry) (was : List ℕ) (patch : Patch) (spot : Spot)
   pub patched : IsPatched g old copy patch.from patch.used bytes
   pub had : are_had g image 1 0 ≡ true
   pub reserve : HasReserve g was → HasReserve g image
+  pub wear : SameWear g was image
   pub tails : KeepsTails g was image
   pub flags : slice_index image (spot.page * g.page + 4) < 256
 
@@ -102,6 +104,7 @@ pub record HasOld (g : Geometry) (was : List ℕ) (patch : Patch) (spot : Spot) 
   pub ends : (d : List ℕ) → KillDone g spot.page image d → IsTidy g d × (table_of g d ≡ patched_files g patch bytes f was)
   pub sound : IsSound g image was
   pub reserve : HasReserve g was → HasReserve g image
+  pub wear : SameWear g was image
   pub flags : slice_index image (spot.page * g.page + 4) < 256
   pub ready : EndsIn g (size_of can.head) patch.span → IsTailReady g image patch.id
   pub kept : IsTailReady g was patch.id → IsTailReady g image patch.id

@@ -17,7 +17,7 @@ use Rattle.image_model.specs.Files.{index_page}
 use Rattle.image_model.specs.Places.{page_of, is_entry_page, IsImage}
 use Rattle.image_model.specs.Sound.{HasMagics}
 use Rattle.image_model.specs.Tables.{table_of}
-use Rattle.image_laws.specs.LiveSteps.{PutDone}
+use Rattle.image_laws.specs.LiveSteps.{PutDone, PutLeaves, KillLeaves}
 use Rattle.image_laws.specs.Put.{IsReadyPage}
 use Rattle.image_laws.proofs.Append.{page_there}
 use Rattle.image_laws.proofs.Finish.{own-parts, is_finished-zero}
@@ -32,6 +32,8 @@ use Rattle.renew_laws.specs.Renew.{RenewsTo}
 use Rattle.renew_laws.specs.Replace.{ReplaceCut, Replaced}
 use Rattle.renew_laws.proofs.RenewStep.{renew-cuts, renew-spares}
 use Rattle.renew_laws.proofs.ReserveKept.{replace-reserve}
+use Rattle.trim_laws.specs.Wear.{SameWear}
+use Rattle.trim_laws.proofs.Wears.{wear_none, wear_then, programs_keep}
 use Rattle.flash_view.specs.declared.kinds.Kind.TheVariants.{Index}
 use Rattle.flash_view.specs.Steps.{Begins, Finishes}
 use Rattle.free_search.specs.Free.{IsFreeFor, FreePage}
@@ -90,6 +92,13 @@ module _ (g : Geometry) (a : List ℕ) (to o : ℕ) (tag : Tag) (built : List �
 -- what is done is one of the cuts
 replace_left : {g : Geometry} {p o : ℕ} {page a b : List ℕ} → Replaced g p o page a b → ReplaceCut g p o page a b
 replace_left all = inr (all.middle, all.put, record { image = all.kill.image; agree = all.kill.agree; live = inr all.kill.loses; used = rw all.kill.zero refl })
+
+-- one page in the place of another makes no block fresh
+pub replace_wear : (g : Geometry) (a c : List ℕ) (to o : ℕ) (page : List ℕ) → ReplaceCut g to o page a c → SameWear g a c
+replace_wear g a c to o page left = ⊎_elim
+    (λ (put : PutLeaves g to page a c). programs_keep g a c to put.agree)
+    (λ (x : (b : List ℕ) × PutDone g to page a b × KillLeaves g o b c). wear_then g a x.0 c (programs_keep g a x.0 to x.1.agree) (programs_keep g x.0 c o x.2.agree))
+    left
 
 -- ---- a header page that is renewed
 
@@ -162,7 +171,7 @@ module _ (g : Geometry) (a : List ℕ) (id o to : ℕ) (edit : Edit) (f : File) 
   cut : (c : List ℕ) → ReplaceCut g to o new a c → StepCut g (put_file f (table_of g a)) a c
   cut c h =
       let law = renew-cuts g a c to o id head new f start (tidy-has_magics g a can.beside can.tidy) h in
-      record { sound = law.0.sound; table = law.0.table; reserve = λ two. replace-reserve g a c to o new head can.room live two (inl h) }
+      record { sound = law.0.sound; table = law.0.table; reserve = λ two. replace-reserve g a c to o new head can.room live two (inl h); wear = replace_wear g a c to o new h }
 
   done : (b : List ℕ) → Replaced g to o new a b → EditDone g id edit f a b
   done b all =
@@ -180,6 +189,7 @@ module _ (g : Geometry) (a : List ℕ) (id o to : ℕ) (edit : Edit) (f : File) 
         idles = law.0;
         sound = left.sound;
         reserve = left.reserve;
+        wear = left.wear;
       }
 
   pub renews : Finishes g a a (replacing to o tag work) (renewing_at id o to edit f)
@@ -193,7 +203,7 @@ module _ (g : Geometry) (a : List ℕ) (id o to : ℕ) (edit : Edit) (f : File) 
 
 -- what stands is what a cut may leave
 pub stays : (g : Geometry) (a : List ℕ) (files : List File) → HasMagics g a → StepCut g files a a
-stays g a files magics = record { sound = (keeps-itself g a magics).sound; table = inl refl; reserve = λ two. two }
+stays g a files magics = record { sound = (keeps-itself g a magics).sound; table = inl refl; reserve = λ two. two; wear = wear_none g a }
 
 pub renew_stays : (g : Geometry) (a : List ℕ) (id o to : ℕ) (edit : Edit) (f : File) → CanRenew g a id o to edit f → StepCut g (put_file f (table_of g a)) a a
 renew_stays g a id o to edit f can = stays g a (put_file f (table_of g a)) (tidy-has_magics g a can.beside can.tidy)

@@ -21,6 +21,7 @@ use Rattle.renew_laws.specs.Renew.{RenewsTo}
 use Rattle.renew_laws.specs.Replace.{ReplaceCut, Replaced}
 use Rattle.renew_laws.specs.Reserve.{CanTake}
 use Rattle.trim_laws.specs.Trim.{IsTrimmed}
+use Rattle.trim_laws.specs.Wear.{SameWear}
 use Rattle.flash_view.specs.declared.kinds.Kind.TheVariants.{Index}
 use Rattle.flash_view.specs.Steps.{Step}
 use Rattle.page_put.specs.LivePages.{IsPuttable, IsKillable, finished_page}
@@ -83,6 +84,7 @@ pub record EditDone (g : Geometry) (id : ℕ) (edit : Edit) (f : File) (was now 
   pub idles : Idles g (λ r. not (r == o) && leftover g (own (live_at g was) id) y r) now
   pub sound : IsSound g now was
   pub reserve : HasReserve g was → HasReserve g now
+  pub wear : SameWear g was now
 
 -- the header page o is renewed at page `to`
 abbrev pub renewing_at : (id o to : ℕ) → Edit → File → Step (Unit {0})
