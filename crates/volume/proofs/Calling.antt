@@ -23,7 +23,7 @@ use Rattle.table_model.specs.Window.{Moment, after, settled_at, leaves_window, i
 use Rattle.image_model.specs.Tables.{table_of}
 use Rattle.image_model.specs.Tidy.{HasReserve, has_spare}
 use Rattle.write_window.specs.Runs.{Run}
-use Rattle.call_model.specs.Safe.{IsSafe, Holds as HoldsImage}
+use Rattle.call_model.specs.Safe.{IsSafe, HoldsImage}
 use Rattle.call_model.specs.Memory.{IsAt, RunWaits}
 use Rattle.call_model.specs.Calls.{Stands, Publishes, Answers}
 use Rattle.call_model.proofs.Safety.{holds_safe, holds_then, holds_itself, safe_as, safe_of_tidy}
