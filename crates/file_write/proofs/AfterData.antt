@@ -15,6 +15,8 @@ use Rattle.image_model.specs.Tables.{table_of}
 use Rattle.image_model.specs.Tidy.{serves, HasReserve}
 use Rattle.image_laws.specs.Reindex.{slot_word}
 use Rattle.image_laws.proofs.Append.{own-some}
+use Rattle.trim_laws.specs.Wear.{SameWear}
+use Rattle.trim_laws.proofs.Wears.{programs_keep}
 use Rattle.flash_view.specs.declared.kinds.Kind.TheVariants.{Data}
 use Rattle.flash_view.specs.Steps.{Begins, Finishes}
 use Rattle.free_search.specs.Had.{IsClear}
@@ -47,7 +49,7 @@ module _ (g : Geometry) (a : List ℕ) (id h size span : ℕ) (bytes : List ℕ)
       (λ (same : c ≡ a). subst (λ (x : List ℕ). StepCut g (put_file (written (length f.bytes) bytes f) (table_of g a)) a x) (sym same) (stays g a id h size bytes f can))
       (λ (w : AddsPage g Data (is_data id span bytes g) a c). kept g a id h size bytes f can c
       ((prime-data g a a id h w.p can.head w.page f (λ r. false) can.prime (of_data g a w.p w.page w.found.kind_is w.is.kind) w.is.kind w.is.of).0 c w.leaves)
-      (put-reserve g a c w.p w.found.keeps w.leaves.agree))
+      (put-reserve g a c w.p w.found.keeps w.leaves.agree) (programs_keep g a c w.p w.leaves.agree))
       left
 
   pub data_begins : Begins g a (adding Data (is_data id span bytes)) (appending_at id h size bytes f)
@@ -78,6 +80,9 @@ module _ (g : Geometry) (a : List ℕ) (id h size span : ℕ) (bytes : List ℕ)
 
     pub reserve : HasReserve g a → HasReserve g b
     reserve = put-reserve g a b p w.found.keeps w.put.agree
+
+    pub wear : SameWear g a b
+    wear = programs_keep g a b p w.put.agree
 
     module _ (span_is : span ≡ size / body g) (whole : size % body g ≡ 0) (near : size / body g < head_slots g) (end : ℕ) (end_is : end ≡ size + length bytes) where
       abbrev t : ℕ
@@ -131,6 +136,7 @@ module _ (g : Geometry) (a : List ℕ) (id h size span : ℕ) (bytes : List ℕ)
             subst (λ (k : ℕ). serves g (own (live_at g b) id) y k ≡ true) (sym here) (serves_data g (own (live_at g b) id) y p (size_of can.head / body g) below (named y edited).0 some);
         had = still_had 1 (one_each g a id h size bytes f can);
         reserve = reserve;
+        wear = wear;
       }
 
       pub near_ends : Finishes g a b (renewing_from id h (GrowBy end p) (written (length f.bytes) bytes f)) (appending_at id h size bytes f)

@@ -19,6 +19,8 @@ use Rattle.image_laws.proofs.Append.{own-live, own-some}
 use Rattle.image_laws.proofs.Finish.{own-parts}
 use Rattle.image_laws.proofs.Judge.{index_passes}
 use Rattle.image_laws.proofs.Sounding.{keeps-on}
+use Rattle.trim_laws.specs.Wear.{SameWear}
+use Rattle.trim_laws.proofs.Wears.{wear_then, programs_keep}
 use Rattle.flash_view.specs.declared.kinds.Kind.TheVariants.{Index, Data}
 use Rattle.flash_view.specs.Steps.{Begins, Finishes}
 use Rattle.free_search.specs.Had.{IsClear}
@@ -39,7 +41,7 @@ use Rattle.page_renew.proofs.SlotNames.{slots_rise}
 use Rattle.file_write.specs.Appends.{CanAppendAt, index_needed, indexing_data, appending_at}
 use Rattle.file_write.specs.Beside.{HasPage, AddsPage, AddedPage, adding, is_data, is_further}
 use Rattle.file_write.proofs.AppendEnds.{primed_clear, IsReady, kept, ends}
-use Rattle.file_write.proofs.AfterData.{data_begins, primed, its_page, still_clear, still_free, still_had, reserve}
+use Rattle.file_write.proofs.AfterData.{data_begins, primed, its_page, still_clear, still_free, still_had, reserve, wear}
 use Rattle.file_write.proofs.LastPage.{one_each, page_fits}
 use Rattle.file_write.proofs.Sizes.{whole_pages, next_page, span_behind, span_within}
 
@@ -88,6 +90,9 @@ module _ (g : Geometry) (a : List ℕ) (id h size span s p end : ℕ) (bytes : L
     reserve_b : HasReserve g a → HasReserve g b
     reserve_b = reserve g a id h size span bytes f can b p q
 
+    wear_b : SameWear g a b
+    wear_b = wear g a id h size span bytes f can b p q
+
     behind : index_pages g (size_of can.head) ≤ s
     behind =
         let far' : head_slots g ≤ data_pages g (size_of can.head) = rw count far in
@@ -101,10 +106,10 @@ module _ (g : Geometry) (a : List ℕ) (id h size span s p end : ℕ) (bytes : L
 
     index_cut : (c : List ℕ) → (c ≡ b) ⊎ AddsPage g Index (is_further id s span p g) b c → StepCut g (put_file (written (length f.bytes) bytes f) (table_of g a)) a c
     index_cut c left = ⊎_elim
-        (λ (same : c ≡ b). subst (λ (x : List ℕ). StepCut g (put_file (written (length f.bytes) bytes f) (table_of g a)) a x) (sym same) (kept g a id h size bytes f can b prime.keeps reserve_b))
+        (λ (same : c ≡ b). subst (λ (x : List ℕ). StepCut g (put_file (written (length f.bytes) bytes f) (table_of g a)) a x) (sym same) (kept g a id h size bytes f can b prime.keeps reserve_b wear_b))
         (λ (w : AddsPage g Index (is_further id s span p g) b c). kept g a id h size bytes f can c
         (keeps-on g a b c prime.keeps ((prime-index g a b id h w.p can.head w.page f one prime (of_kind g b w.p w.page w.found.kind_is w.is.kind) w.is.kind w.is.of (let same = w.is.at in omega (arith, behind, same))).0 c w.leaves))
-        (λ two. put-reserve g b c w.p w.found.keeps w.leaves.agree (reserve_b two)))
+        (λ two. put-reserve g b c w.p w.found.keeps w.leaves.agree (reserve_b two)) (wear_then g a b c wear_b (programs_keep g b c w.p w.leaves.agree)))
         left
 
     -- then the index page
@@ -209,6 +214,7 @@ module _ (g : Geometry) (a : List ℕ) (id h size span s p end : ℕ) (bytes : L
         serve = serving;
         had = (put_had g b c r w.page 1 0 clear_b (primed_clear g a c id h can.head f two law.0) w.put).0 w.found w.is.kind (still_had g a id h size span bytes f can b p q 2 two_each);
         reserve = λ before. put-reserve g b c r w.found.keeps w.put.agree (reserve_b before);
+        wear = wear_then g a b c wear_b (programs_keep g b c r w.put.agree);
       }
 
       index_ends : Finishes g a c (renewing_from id h (Grow end) (written (length f.bytes) bytes f)) (appending_at id h size bytes f)

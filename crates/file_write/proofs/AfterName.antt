@@ -33,7 +33,7 @@ use Rattle.image_laws.proofs.Sounding.{keeps-on}
 use Rattle.trim_laws.specs.Trim.{Trims}
 use Rattle.trim_laws.specs.Wear.{SameWear, Worn}
 use Rattle.trim_laws.proofs.Trims.{inside_trims}
-use Rattle.trim_laws.proofs.Wears.{inside_keeps, upkeep_same, worn_same}
+use Rattle.trim_laws.proofs.Wears.{wear_then, inside_keeps, upkeep_same, worn_same}
 use Rattle.trim_laws.proofs.Pages.{further_not_head}
 use Rattle.flash_view.specs.declared.kinds.Kind.TheVariants.{Data}
 use Rattle.flash_view.specs.Steps.{Begins, Finishes, making}
@@ -56,7 +56,7 @@ use Rattle.page_renew.proofs.SlotNames.{slots_rise}
 use Rattle.file_write.specs.Appends.{CanAppendAt, CanName, IsSlotPage, naming_at, naming_data, appending_at}
 use Rattle.file_write.specs.Beside.{AddedPage, adding, is_data}
 use Rattle.file_write.proofs.AppendEnds.{primed_clear, IsReady, kept, ends}
-use Rattle.file_write.proofs.AfterData.{data_begins, primed, its_page, still_clear, still_free, still_had, reserve}
+use Rattle.file_write.proofs.AfterData.{data_begins, primed, its_page, still_clear, still_free, still_had, reserve, wear}
 use Rattle.file_write.proofs.LastPage.{one_each, page_fits}
 use Rattle.file_write.proofs.Sizes.{page_few, whole_pages, next_page}
 
@@ -145,12 +145,19 @@ module _ (g : Geometry) (a : List ℕ) (id h size w span p end : ℕ) (bytes : L
         (λ v. v.0)
         ((primed-places g a b id h at.head f one prime).1 w (index_span g span) passes)
 
+    -- all erase counts stay
+    named_wear : (c : List ℕ) → HalfProgrammed (w * g.page + slot_at g span) asked b c → SameWear g b c
+    named_wear c torn =
+        let inside = slot-fits g span (sizes g).page in
+        inside_keeps g b c w (w * g.page + slot_at g span) (length asked) (live_parts g b w there.0 (own-parts (live_at g b) id w there.0 x_still).0).entry_page (omega arith) (omega (arith, inside, le_two p)) torn.outside
+
     module _ (c : List ℕ) (torn : HalfProgrammed (w * g.page + slot_at g span) asked b c) where
       law : Keeps g b c × (free_blocks g b ≤ free_blocks g c) × Primed g id h at.head f one a c × ChangesInPlace g id w b c
       law = prime-name g a b c id h w span at.head there.0 asked f one prime x_still there.2 (omega (arith, count)) far (sym there.3) (le_two p) torn
 
       name_cut : StepCut g (put_file (written (length f.bytes) bytes f) (table_of g a)) a c
       name_cut = kept g a id h size bytes f at c (keeps-on g a b c prime.keeps law.0) (λ two. let before = reserve g a id h size span bytes f at b p q two in let more = law.1 in omega (arith, before, more))
+          (wear_then g a b c (wear g a id h size span bytes f at b p q) (named_wear c torn))
 
       had : are_had g c 1 0 ≡ true
       had =
@@ -229,6 +236,7 @@ module _ (g : Geometry) (a : List ℕ) (id h size w span p end : ℕ) (bytes : L
             subst (λ (k : ℕ). serves g (own (live_at g c) id) y k ≡ true) (sym here) (serves_data g (own (live_at g c) id) y p span below (named y).0 some);
         had = had c torn;
         reserve = λ two. (name_cut c torn).reserve two;
+        wear = (name_cut c torn).wear;
       }
 
       name_ends : Finishes g a c (renewing_from id h (Grow end) (written (length f.bytes) bytes f)) (naming_at id h size w bytes f)
@@ -241,12 +249,6 @@ module _ (g : Geometry) (a : List ℕ) (id h size w span p end : ℕ) (bytes : L
         let behind : slot_at g span ≡ 8 + 2 * ((span - head_slots g) % span_slots g) = rw (le-ltb span (head_slots g) far) refl in
         let more : span_of there.0 ≡ 0 → ⊥ = λ zero. omega (arith, zero, there.3, further_is) in
         inside_trims g b c w (w * g.page + slot_at g span) there.0 asked prime.image (own-parts (live_at g b) id w there.0 x_still).0 (further_not_head there.0 more) (omega (arith, behind)) (omega (arith, inside, le_two p)) torn
-
-    -- all erase counts stay
-    named_wear : (c : List ℕ) → HalfProgrammed (w * g.page + slot_at g span) asked b c → SameWear g b c
-    named_wear c torn =
-        let inside = slot-fits g span (sizes g).page in
-        inside_keeps g b c w (w * g.page + slot_at g span) (length asked) (live_parts g b w there.0 (own-parts (live_at g b) id w there.0 x_still).0).entry_page (omega arith) (omega (arith, inside, le_two p)) torn.outside
 
     -- the entry is programmed behind it
     pub name_goes : Finishes g a b (making (λ k l. IsUsedPage k l w) (λ k. HalfProgrammed (w * k.page + slot_at k span) asked) (λ k was. programmed was (w * k.page + slot_at k span) asked)) (naming_data id h size w span p bytes f)

@@ -23,6 +23,8 @@ use Rattle.image_laws.proofs.Append.{page_there}
 use Rattle.renew_laws.specs.Primed.{Primed}
 use Rattle.renew_laws.specs.Tails.{HasFreeEntries, HasCleanTail}
 use Rattle.renew_laws.proofs.TailSteps.{tail-grown}
+use Rattle.trim_laws.specs.Wear.{SameWear}
+use Rattle.trim_laws.proofs.Wears.{wear_none, wear_then}
 use Rattle.flash_view.specs.Steps.{Finishes}
 use Rattle.free_search.specs.Had.{IsClear}
 use Rattle.free_search.proofs.HadBy.{tidy_but_is_clear}
@@ -43,14 +45,14 @@ module _ (g : Geometry) (a : List ℕ) (id h size : ℕ) (bytes : List ℕ) (f :
   files = put_file (written (length f.bytes) bytes f) (table_of g a)
 
   -- what stands is what a cut may leave, and so is what keeps it
-  pub kept : (c : List ℕ) → Keeps g a c → (HasReserve g a → HasReserve g c) → StepCut g files a c
-  kept c keeps reserve = record { sound = keeps.sound; table = inl keeps.table; reserve = reserve }
+  pub kept : (c : List ℕ) → Keeps g a c → (HasReserve g a → HasReserve g c) → SameWear g a c → StepCut g files a c
+  kept c keeps reserve wear = record { sound = keeps.sound; table = inl keeps.table; reserve = reserve; wear = wear }
 
   pub magics : HasMagics g a
   magics = tidy-has_magics g a (λ (r : ℕ). false) can.prime.tidy
 
   pub stays : StepCut g files a a
-  stays = kept a (keeps-itself g a magics) (λ two. two)
+  stays = kept a (keeps-itself g a magics) (λ two. two) (wear_none g a)
 
   -- The bytes stand behind the old end with 0xFF behind them, an edit of the header page takes them into the file, and the entries behind the new last
   -- span are free.
@@ -64,6 +66,7 @@ module _ (g : Geometry) (a : List ℕ) (id h size : ℕ) (bytes : List ℕ) (f :
     pub free : HasFreeEntries g (own (live_at g b) id) (data_pages g (size_of can.head + length bytes))
     pub had : are_had g b 1 0 ≡ true
     pub reserve : HasReserve g a → HasReserve g b
+    pub wear : SameWear g a b
 
   -- So the edited header page tells a clean tail.
   clean : (b : List ℕ) (edit : Edit) → IsReady b edit → (y : List ℕ) → IsEdited g can.head edit y → HasCleanTail g (own (live_at g b) id) y
@@ -107,6 +110,7 @@ module _ (g : Geometry) (a : List ℕ) (id h size : ℕ) (bytes : List ℕ) (f :
           (λ (new : table_of g c ≡ put_file (written (length f.bytes) bytes f) (table_of g b)). inr (new ∙ ap (λ (t : List File). put_file (written (length f.bytes) bytes f) t) r.prime.keeps.table))
           cut.table;
       reserve = λ two. cut.reserve (r.reserve two);
+      wear = wear_then g a b c r.wear cut.wear;
     };
     done = λ c ok done.
         let tidies = grow-tidies g a b c id h can.head r.z bytes f (written (length f.bytes) bytes f) r.beside edit r.prime r.grows r.serve done in

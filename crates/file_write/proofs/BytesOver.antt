@@ -19,6 +19,7 @@ use Rattle.image_laws.proofs.SpareKill.{tidy-has_magics}
 use Rattle.image_laws.proofs.TidySteps.{tidy-is_tidy}
 use Rattle.renew_laws.specs.Primed.{Primed}
 use Rattle.renew_laws.specs.Tails.{IsTailReady}
+use Rattle.trim_laws.proofs.Wears.{wear_none}
 use Rattle.flash_view.specs.Steps.{Finishes}
 use Rattle.page_renew.specs.PageSteps.{StepCut, StepDone}
 use Rattle.page_renew.specs.declared.finding.Found.{Found}
@@ -31,7 +32,7 @@ use Rattle.file_write.proofs.FileHomes.{no_home, home_at}
 
 -- what stands is what a cut may leave
 pub over_stays : (g : Geometry) (a : List ℕ) (id at : ℕ) (bytes : List ℕ) (f : File) → CanOverwrite g a id at bytes f → StepCut g (put_file (written at bytes f) (table_of g a)) a a
-over_stays g a id at bytes f can = record { sound = (keeps-itself g a (tidy-has_magics g a (λ (r : ℕ). false) ((tidy-is_tidy g a (λ (r : ℕ). false)).0 can.tidy))).sound; table = inl refl; reserve = λ two. two }
+over_stays g a id at bytes f can = record { sound = (keeps-itself g a (tidy-has_magics g a (λ (r : ℕ). false) ((tidy-is_tidy g a (λ (r : ℕ). false)).0 can.tidy))).sound; table = inl refl; reserve = λ two. two; wear = wear_none g a }
 
 -- a place below the size is in one of the data pages
 pub span_below : (at size b : ℕ) → 0 < b → at < size → at / b < ceil size b

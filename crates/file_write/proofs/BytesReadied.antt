@@ -22,6 +22,7 @@ use Rattle.image_laws.proofs.TidySteps.{tidy-is_tidy}
 use Rattle.header_laws.proofs.Listed.{any-found}
 use Rattle.renew_laws.proofs.Overwritten.{nothing-written}
 use Rattle.renew_laws.proofs.RecopyLeaves.{put-same}
+use Rattle.trim_laws.proofs.Wears.{wear_none}
 use Rattle.flash_view.specs.Steps.{Finishes}
 use Rattle.page_renew.specs.PageSteps.{StepCut, StepDone}
 use Rattle.page_renew.specs.declared.finding.Found.{Found}
@@ -38,7 +39,7 @@ use Rattle.file_write.proofs.TailLooks.{tail_ready}
 
 -- what stands is what a cut may leave
 pub ready_stays : (g : Geometry) (a : List ℕ) (id : ℕ) → CanReady g a id → StepCut g (table_of g a) a a
-ready_stays g a id can = record { sound = (keeps-itself g a (tidy-has_magics g a (λ (r : ℕ). false) ((tidy-is_tidy g a (λ (r : ℕ). false)).0 can.tidy))).sound; table = inl refl; reserve = λ two. two }
+ready_stays g a id can = record { sound = (keeps-itself g a (tidy-has_magics g a (λ (r : ℕ). false) ((tidy-is_tidy g a (λ (r : ℕ). false)).0 can.tidy))).sound; table = inl refl; reserve = λ two. two; wear = wear_none g a }
 
 -- the file of an id that the table has
 abbrev pub chosen : List File → ℕ → File

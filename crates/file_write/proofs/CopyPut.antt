@@ -5,6 +5,8 @@ use Rattle.std.proofs.lemmas.Option.{none-some}
 use Rattle.geometry.specs.declared.geometry.Geometry.{Geometry}
 use Rattle.table_model.specs.declared.error.Tag.{Tag}
 use Rattle.table_model.specs.Table.{File}
+use Rattle.trim_laws.specs.Wear.{SameWear}
+use Rattle.trim_laws.proofs.Wears.{wear_none, programs_keep}
 use Rattle.trim_laws.proofs.Pages.{data_trims}
 use Rattle.flash_view.specs.declared.kinds.Kind.TheVariants.{Data}
 use Rattle.flash_view.specs.Steps.{Finishes}
@@ -70,12 +72,12 @@ module _ (g : Geometry) (a : List ℕ) (patch : Patch) (bytes : List ℕ) (f : F
   pub magics : HasMagics g a
   magics = tidy-has_magics g a (λ (r : ℕ). false) can.prime.tidy
 
-  pub keeps_cut : (c : List ℕ) → Keeps g a c → (HasReserve g a → HasReserve g c) → StepCut g (patched_files g patch bytes f a) a c
-  keeps_cut c keeps reserve = record { sound = keeps.sound; table = inl keeps.table; reserve = reserve }
+  pub keeps_cut : (c : List ℕ) → Keeps g a c → (HasReserve g a → HasReserve g c) → SameWear g a c → StepCut g (patched_files g patch bytes f a) a c
+  keeps_cut c keeps reserve wear = record { sound = keeps.sound; table = inl keeps.table; reserve = reserve; wear = wear }
 
   -- what stands is what a cut may leave
   pub patch_stays : StepCut g (patched_files g patch bytes f a) a a
-  patch_stays = keeps_cut a (keeps-itself g a magics) (λ two. two)
+  patch_stays = keeps_cut a (keeps-itself g a magics) (λ two. two) (wear_none g a)
 
   pub patch_clear : IsClear g a
   patch_clear = primed_clear g a a patch.id can.h can.head f (λ r. false) can.prime
@@ -161,7 +163,7 @@ module _ (g : Geometry) (a : List ℕ) (patch : Patch) (spot : Spot) (to : ℕ) 
   law = prime-data g a a patch.id at.can.h to at.can.head new f (λ r. false) at.can.prime kind page_is.names page_is.of
 
   cut : (c : List ℕ) → PutLeaves g to new a c → StepCut g (patched_files g patch bytes f a) a c
-  cut c leaves = keeps_cut g a patch bytes f at.can c (law.0 c leaves) (put-reserve g a c to can.found.keeps leaves.agree)
+  cut c leaves = keeps_cut g a patch bytes f at.can c (law.0 c leaves) (put-reserve g a c to can.found.keeps leaves.agree) (programs_keep g a c to leaves.agree)
 
   -- the index page
   x_is : (x : List ℕ) × (pages spot.index ≡ Some x) × (names_index x ≡ true) × (span_of x ≡ index_span g patch.span)
@@ -191,6 +193,7 @@ module _ (g : Geometry) (a : List ℕ) (patch : Patch) (spot : Spot) (to : ℕ) 
         patched = patched;
         had = (put_had g a b to new 1 0 (patch_clear g a patch bytes f at.can) (primed_clear g a b patch.id at.can.h at.can.head f (λ r. r == to) prime) put).1 can.found page_is.names at.can.had;
         reserve = put-reserve g a b to can.found.keeps put.agree;
+        wear = programs_keep g a b to put.agree;
         tails = tail-beside g a b to patch.id at.can.h new at.can.head f
             (record { kind = kind; data_kind = page_is.names; of = page_is.of; at = at.can.prime.at; header = at.can.prime.header; file = at.can.prime.file })
             put;

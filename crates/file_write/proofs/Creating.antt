@@ -35,6 +35,7 @@ use Rattle.image_laws.proofs.Records.{bytes_equal, list_any-at}
 use Rattle.image_laws.proofs.Sounding.{sound-by, keeps-by_live, mixed-gains, other-kind, gains-undamaged}
 use Rattle.image_laws.proofs.TidySteps.{tidy-is_tidy, entries-but}
 use Rattle.image_laws.proofs.Wants.{wanted-gains, wanted-new}
+use Rattle.trim_laws.proofs.Wears.{programs_keep}
 use Rattle.flash_view.specs.Steps.{Finishes}
 use Rattle.page_put.specs.Placing.{placed_page}
 use Rattle.page_put.specs.LivePages.{finished_page, putting}
@@ -168,8 +169,8 @@ module _ (g : Geometry) (a : List ℕ) (p id : ℕ) (name : List ℕ) (some : 1 
       ⊎_elim
       (λ (same : live_at g c ≡ live_at g a).
       let live : (q : ℕ) → live_at g c q ≡ live_at g a q = λ q. ap (λ (l : Live). l q) same in
-      record { sound = (keeps-by_live g a c magics h.agree.magic live).sound; table = inl (table_of-same g c a live); reserve = reserve c h.agree })
-      (λ (gains : Gains p head (live_at g a) (live_at g c)). record { sound = sound c h.agree gains; table = inr (puts c h.agree gains); reserve = reserve c h.agree })
+      record { sound = (keeps-by_live g a c magics h.agree.magic live).sound; table = inl (table_of-same g c a live); reserve = reserve c h.agree; wear = programs_keep g a c p h.agree })
+      (λ (gains : Gains p head (live_at g a) (live_at g c)). record { sound = sound c h.agree gains; table = inr (puts c h.agree gains); reserve = reserve c h.agree; wear = programs_keep g a c p h.agree })
       h.live
 
   put_done : (c : List ℕ) → PutDone g p head a c → Created g a id name c

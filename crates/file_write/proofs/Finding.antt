@@ -5,6 +5,7 @@ use Rattle.flash_view.specs.declared.kinds.Kind.TheVariants.{Index}
 use Rattle.image_model.specs.Places.{IsImage}
 use Rattle.image_model.specs.Sound.{HasMagics}
 use Rattle.image_laws.proofs.Sounding.{keeps-itself}
+use Rattle.trim_laws.proofs.Wears.{wear_none}
 use Rattle.free_search.specs.Free.{IsFreeFor, FreePage}
 use Rattle.free_search.proofs.FoundPage.{free_of}
 use Rattle.free_search.proofs.Had.{page_had}
@@ -15,7 +16,7 @@ use Rattle.file_write.specs.Creates.{CanCreate, CreateCut, creating_at, creating
 pub stays : (g : Geometry) (image : List ℕ) (id : ℕ) (name : List ℕ) → CanCreate g image id name → CreateCut g image id name image
 stays g image id name can =
     let magics : HasMagics g image = record { one = λ b c low low' no no'. let bad : true ≡ false = sym (can.tidy.magic b low) ∙ no in absurd (cc) } in
-    record { sound = (keeps-itself g image magics).sound; table = inl refl; reserve = can.reserve }
+    record { sound = (keeps-itself g image magics).sound; table = inl refl; reserve = can.reserve; wear = wear_none g image }
 
 -- where an index page is had, one is found
 pub found_one : (g : Geometry) (image : List ℕ) (id : ℕ) (name : List ℕ) → CanCreate g image id name → FreePage g image Index 2 None None → ⊥

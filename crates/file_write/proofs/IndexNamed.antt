@@ -10,6 +10,7 @@ use Rattle.table_model.specs.declared.error.Tag.{Tag}
 use Rattle.table_model.specs.Table.{File, put_file}
 use Rattle.table_model.specs.Files.{written}
 use Rattle.table_model.specs.Room.{data_pages}
+use Rattle.trim_laws.proofs.Wears.{wear_then}
 use Rattle.page_renew.proofs.Trimmed.{renamed_head}
 use Rattle.flash_view.specs.declared.kinds.Kind.TheVariants.{Index}
 use Rattle.flash_view.specs.Steps.{Finishes}
@@ -45,6 +46,7 @@ use Rattle.page_renew.specs.Built.{IsRenamed}
 use Rattle.page_renew.specs.Copies.{count_of}
 use Rattle.page_renew.specs.PageSteps.{StepCut}
 use Rattle.page_renew.specs.Renewals.{replacing}
+use Rattle.page_renew.proofs.HeaderRenewed.{replace_wear}
 use Rattle.page_renew.proofs.Homes.{index_some, of_kind}
 use Rattle.page_renew.proofs.IndexCopies.{placed_index}
 use Rattle.page_renew.proofs.SlotNames.{slot_behind}
@@ -64,7 +66,7 @@ module _ (g : Geometry) (was image : List ℕ) (patch : Patch) (spot : Spot) (to
   copy_clear = primed_clear g was image patch.id has.at.can.h has.at.can.head f (λ r. r == to) has.prime
 
   pub copy_stays : StepCut g (patched_files g patch bytes f was) was image
-  copy_stays = record { sound = has.prime.keeps.sound; table = inl has.prime.keeps.table; reserve = has.reserve }
+  copy_stays = record { sound = has.prime.keeps.sound; table = inl has.prime.keeps.table; reserve = has.reserve; wear = has.wear }
 
   pub index_found : FreePage g image Index 2 None None → ⊥
   index_found none = let bad : false ≡ true = page_had g image None none ∙ has.had in absurd (cc)
@@ -198,6 +200,7 @@ module _ (g : Geometry) (was image : List ℕ) (patch : Patch) (spot : Spot) (to
             (λ (next : table_of g c ≡ put_file f' (table_of g image)). inr (next ∙ ap (λ (t : List File). put_file f' t) can.has.prime.keeps.table))
             law.0.table;
         reserve = λ two. replace-reserve g image c p spot.index new old can.room copy.built.live (can.has.reserve two) (inl h);
+        wear = wear_then g was image c can.has.wear (replace_wear g image c p spot.index new h);
       }
 
   -- ---- the tail
@@ -273,6 +276,7 @@ module _ (g : Geometry) (was image : List ℕ) (patch : Patch) (spot : Spot) (to
         ends = law.3;
         sound = left.sound;
         reserve = left.reserve;
+        wear = left.wear;
         flags = flags_stay g all.middle b spot.index spot.page can.has.old all.kill.agree live5 not_w (flags_stay g image all.middle p spot.page can.has.old all.put.agree live not_p can.has.flags);
         ready = λ ends. tail b all ends;
         kept = λ ready. kept b all ready;

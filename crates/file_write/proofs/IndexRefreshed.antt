@@ -48,6 +48,7 @@ use Rattle.page_renew.specs.Copies.{count_of}
 use Rattle.page_renew.specs.PageSteps.{StepCut}
 use Rattle.page_renew.specs.Renewals.{replacing}
 use Rattle.page_renew.proofs.FreeEntries.{free_behind}
+use Rattle.page_renew.proofs.HeaderRenewed.{replace_wear}
 use Rattle.page_renew.proofs.Homes.{index_some, of_kind}
 use Rattle.page_renew.proofs.IndexCopies.{placed_index}
 use Rattle.page_renew.proofs.Renewed.{slot_same, now_same, renewed}
@@ -187,6 +188,7 @@ module _ (g : Geometry) (a : List ℕ) (id size o to : ℕ) (f : File) (can : Ca
         sound = law.0.sound;
         table = ⊎_elim (λ (same : table_of g c ≡ table_of g a). inl same) (λ (next : table_of g c ≡ put_file f (table_of g a)). inl (next ∙ same_file)) law.0.table;
         reserve = λ two. replace-reserve g a c to o new old can.room built.live two (inl h);
+        wear = replace_wear g a c to o new h;
       }
 
   -- ---- done

@@ -188,12 +188,16 @@ module _ (g : Geometry) (a : List ℕ) (id h size q at end : ℕ) (bytes : List 
   ones : (k : ℕ) → at ≤ k → k < at + length bytes → slice_index named.z k ≡ 0xFF
   ones k low high = (can.can.ready h can.head can.prime.at can.prime.header).bytes named.z (λ e. omega (arith, e, used)) whole k (omega (arith, low, start)) (omega (arith, high, inside))
 
+  -- all erase counts stay
+  filled_wear : (c : List ℕ) → HalfProgrammed (q * g.page + at) bytes a c → SameWear g a c
+  filled_wear c torn = inside_keeps g a c q (q * g.page + at) (length bytes) (live_parts g a q named.z live).entry_page (omega arith) (omega (arith, inside)) torn.outside
+
   module _ (c : List ℕ) (torn : HalfProgrammed (q * g.page + at) bytes a c) where
     law : Keeps g a c × (free_blocks g a ≤ free_blocks g c) × Primed g id h can.head f (λ r. false) a c × ChangesInPlace g id q a c × (data_page g (own (live_at g c) id) can.head (size_of can.head / body g) ≡ Some (page_of g c q))
     law = prime-fill g a a c id h q at can.head named.z bytes f (λ r. false) can.prime named.entry named.is named.kind named.span (omega (arith, start)) inside torn
 
     cut : StepCut g (put_file (written (length f.bytes) bytes f) (table_of g a)) a c
-    cut = kept g a id h size bytes f can c law.0 (λ two. let more = law.1 in omega (arith, two, more))
+    cut = kept g a id h size bytes f can c law.0 (λ two. let more = law.1 in omega (arith, two, more)) (filled_wear c torn)
 
     had : are_had g c 1 0 ≡ true
     had =
@@ -246,11 +250,8 @@ module _ (g : Geometry) (a : List ℕ) (id h size q at end : ℕ) (bytes : List 
       serve = λ y edited r none. absurd (let bad : false ≡ true = none in cc);
       had = had;
       reserve = λ two. let more = law.1 in omega (arith, two, more);
+      wear = filled_wear c torn;
     }
-
-  -- all erase counts stay
-  filled_wear : (c : List ℕ) → HalfProgrammed (q * g.page + at) bytes a c → SameWear g a c
-  filled_wear c torn = inside_keeps g a c q (q * g.page + at) (length bytes) (live_parts g a q named.z live).entry_page (omega arith) (omega (arith, inside)) torn.outside
 
   pub fill_begins : Begins g a (making (λ k l. IsUsedPage k l q) (λ k. HalfProgrammed (q * k.page + at) bytes) (λ k was. programmed was (q * k.page + at) bytes)) (filling_at id h size q bytes f)
   fill_begins = record {

@@ -26,6 +26,7 @@ use Rattle.renew_laws.specs.Idles.{Idles}
 use Rattle.renew_laws.proofs.IdleKill.{idle-kills}
 use Rattle.renew_laws.proofs.Spans.{span_page}
 use Rattle.renew_laws.proofs.TailSteps.{tail-dropped}
+use Rattle.trim_laws.proofs.Wears.{wear_then, programs_keep}
 use Rattle.page_put.specs.LivePages.{killing}
 use Rattle.page_renew.proofs.Homes.{index_some}
 use Rattle.file_write.specs.declared.relinking.Patch.{Patch}
@@ -44,7 +45,12 @@ module _ (g : Geometry) (was image : List ℕ) (patch : Patch) (spot : Spot) (by
     needs = record { live = ap is_some has.live; byte = has.flags };
     cut = λ c kill.
         let left = law.0 c kill in
-        record { sound = sound-on g was image c has.sound left.0.sound; table = inr (left.0.table ∙ has.table); reserve = λ two. let kept = has.reserve two in let more = left.1 in omega (arith, kept, more) };
+        record {
+          sound = sound-on g was image c has.sound left.0.sound;
+          table = inr (left.0.table ∙ has.table);
+          reserve = λ two. let kept = has.reserve two in let more = left.1 in omega (arith, kept, more);
+          wear = wear_then g was image c has.wear (programs_keep g image c spot.page kill.agree);
+        };
     done = λ d ok kill.
         let left = law.1 d kill in
         let ends = has.ends d kill in

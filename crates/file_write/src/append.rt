@@ -133,10 +133,11 @@ fn append_found<N: Nor>(
     }
 }
 
-/// Adds bytes at the end of a file, inside one data page, in one page step: at a cut they are there or not, and a reserve
-/// that was there is there. The image is to be tidy and the file's tail ready, with a data page to be had, and an index page
-/// or, where the new data page is the first of a further index page, two; the bytes are to be some, and to end in the data
-/// page in which they begin. Where that holds, a fault of the device is the one error. It takes fourteen programs at most.
+/// Adds bytes at the end of a file, inside one data page, in one page step: at a cut they are there or not, a reserve that
+/// was there is there, and no block is made fresh. The image is to be tidy and the file's tail ready, with a data page to be
+/// had, and an index page or, where the new data page is the first of a further index page, two; the bytes are to be some,
+/// and to end in the data page in which they begin. Where that holds, a fault of the device is the one error. It takes
+/// fourteen programs at most.
 pub fn append_step<N: Nor>(v: &mut View<'_, N>, id: u16, from: &[u8]) -> Result<(), StepErr>
     ensures step { (f : File) → Stepped stopped v.old v.new result (appending id from.now f) }
     ensures few { N.device_writes v.new.nor.now ≤ N.device_writes v.old.nor.now + 14 }

@@ -39,9 +39,9 @@ fn put_header_page<N: Nor>(
 }
 
 /// Makes an empty file of that name under that id, in one page step: at a cut it is there whole or not at
-/// all. The image is to be tidy with its reserve, with an index page to be had; the id and the name are to be
-/// unused, the name 1 to 31 bytes without a zero. Where that holds, a fault of the device is the one error. It takes four
-/// programs at most.
+/// all, and no block is made fresh. The image is to be tidy with its reserve, with an index page to be had; the id and the
+/// name are to be unused, the name 1 to 31 bytes without a zero. Where that holds, a fault of the device is the one error.
+/// It takes four programs at most.
 pub fn create_step<N: Nor>(v: &mut View<'_, N>, id: u16, name: &[u8]) -> Result<(), StepErr>
     requires id { (1 ≤ id) × (id ≤ 0x7FFE) }
     requires name { (1 ≤ length name.now) × (length name.now ≤ 31) }
