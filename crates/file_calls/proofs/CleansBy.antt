@@ -1,21 +1,43 @@
 -- Calls that clean blocks for the pages that they take, one step after the other.
-use Rattle.std.proofs.Common.{◌≡◌, ℕ, List, [], true, false, refl, sym, subst, Result, Ok, Err, IsErr}
+use Rattle.std.proofs.Common.{◌≡◌, ℕ, ◌≤◌, List, [], true, false, refl, sym, subst, arith, Result, Ok, Err, IsErr}
 use Rattle.geometry.specs.declared.geometry.Geometry.{Geometry}
 use Rattle.nor_core.specs.declared.state.NorState.{Ghosts as NorOf}
 use Rattle.nor_core.specs.Device.{OnlyReads, Changes}
 use Rattle.nor_core.proofs.Cuts.{wider, both, unchanged, read_after, after_reads, reads_then, reads_none}
-use Rattle.image_model.specs.Tidy.{HasReserve}
+use Rattle.table_model.specs.Table.{File}
+use Rattle.trim_laws.proofs.Wears.{wear_none, wear_then}
+use Rattle.page_renew.specs.PageSteps.{StepCut}
+use Rattle.file_write.specs.Creates.{CreateCut}
+use Rattle.file_drop.specs.Removals.{RemoveCut}
 use Rattle.block_gc.specs.RoomMade.{SweptAlong, NoneIs, IsReady}
 use Rattle.flash_view.specs.declared.view.View.{View}
 use Rattle.flash_view.specs.Same.{OnlyLooks}
 use Rattle.flash_view.specs.Steps.{Step, Errors, Stepped, Begins, Finishes}
 use Rattle.flash_view.proofs.Stepped.{after_look, stepped_then, passes}
 use Rattle.file_calls.specs.Collecting.{RoomCut}
-use Rattle.file_calls.specs.Cleans.{SweptFor, CleansFor, Taken}
+use Rattle.file_calls.specs.Cleans.{SweptFor, LeavesBlocks, CleansFor, Taken}
 
--- two free blocks stay free in a step
+-- ---- steps that clean no block
+
+-- two free blocks stay free in a step, and no block is made fresh
 abbrev pub StaysSpare : {T : Type 0} → Step T → Type 0
-StaysSpare step = (g : Geometry) (was image : List ℕ) → step.cut g was image → HasReserve g was → HasReserve g image
+StaysSpare step = (g : Geometry) (was image : List ℕ) → step.cut g was image → LeavesBlocks g was image
+
+pub leaves_none : (g : Geometry) (a : List ℕ) → LeavesBlocks g a a
+leaves_none g a = record { reserve = λ two. two; wear = wear_none g a }
+
+leaves_then : (g : Geometry) (a b c : List ℕ) → LeavesBlocks g a b → LeavesBlocks g b c → LeavesBlocks g a c
+leaves_then g a b c first second = record { reserve = λ two. second.reserve (first.reserve two); wear = wear_then g a b c first.wear second.wear }
+
+-- page steps, and those that make a file and remove one
+pub step_leaves : {g : Geometry} {after : List File} {was image : List ℕ} → StepCut g after was image → LeavesBlocks g was image
+step_leaves cut = record { reserve = cut.reserve; wear = cut.wear }
+
+pub create_leaves : {g : Geometry} {id : ℕ} {name was image : List ℕ} → CreateCut g was id name image → LeavesBlocks g was image
+create_leaves cut = record { reserve = λ two. cut.reserve; wear = cut.wear }
+
+pub remove_leaves : {g : Geometry} {id : ℕ} {was image : List ℕ} → RemoveCut g was id image → LeavesBlocks g was image
+remove_leaves cut = record { reserve = λ two. let free = cut.free in omega (arith, two, free); wear = cut.wear }
 
 -- nothing was cleaned
 pub swept_none : (g : Geometry) (index pages : ℕ) (image : List ℕ) → SweptFor g index pages image image
@@ -44,7 +66,7 @@ module _ {D : Type 0} {nor : NorOf D} {g : Geometry} {index pages : ℕ} where
   cleans_read call reads = record { mid = call.mid; first = call.first; idle = call.idle; needed = call.needed; rest = read_after call.rest reads }
 
   -- nothing is cleaned
-  pub cleans_none : {old new : D} {P : Type 0} → RoomCut g (nor.bytes old) (nor.bytes old) → Changes nor old new (λ was image. HasReserve g was → HasReserve g image) → CleansFor nor g index pages old new P
+  pub cleans_none : {old new : D} {P : Type 0} → RoomCut g (nor.bytes old) (nor.bytes old) → Changes nor old new (LeavesBlocks g) → CleansFor nor g index pages old new P
   cleans_none {old} stays rest = record {
     mid = old;
     first = unchanged old (RoomCut g) (λ tells. stays);
@@ -55,7 +77,7 @@ module _ {D : Type 0} {nor : NorOf D} {g : Geometry} {index pages : ℕ} where
 
   -- no more than reads
   pub cleans_reads : {old new : D} {P : Type 0} → RoomCut g (nor.bytes old) (nor.bytes old) → OnlyReads nor old new → CleansFor nor g index pages old new P
-  cleans_reads {old} stays reads = cleans_none stays (read_after (unchanged old (λ was image. HasReserve g was → HasReserve g image) (λ tells reserve. reserve)) reads)
+  cleans_reads {old} stays reads = cleans_none stays (read_after (unchanged old (LeavesBlocks g) (λ tells. leaves_none g (nor.bytes old))) reads)
 
 -- ---- over a view
 
@@ -92,7 +114,7 @@ module _ {N : Type 0} {nor : NorOf N} {index pages : ℕ} where
     cleans = λ tells need. cleans_none (stays tells need) (wider call.cuts (λ told image cut. spare old.geometry (nor.bytes old.nor.now) image (cut need)));
   }
 
-  -- pages were had, and then a step was taken in which two free blocks stay free
+  -- pages were had, and then a step was taken that cleans no block
   pub taken_then : {S T D E : Type 0} {before : Errors D} {errors : Errors E} {old mid new : View N nor} {x : S} {r : Result T E} {first : Step S} {last whole : Step T} → StaysSpare last → Taken before index pages old mid (Ok x) first → Stepped errors mid new r last →
       (nor.tells old.nor.now → whole.needs old.geometry (nor.bytes old.nor.now) → Begins old.geometry (nor.bytes old.nor.now) first whole) →
       (nor.tells old.nor.now → whole.needs old.geometry (nor.bytes old.nor.now) → first.done old.geometry (nor.bytes old.nor.now) (nor.bytes mid.nor.now) x →
@@ -112,6 +134,6 @@ module _ {N : Type 0} {nor : NorOf N} {index pages : ℕ} where
               first = c.first;
               idle = c.idle;
               needed = λ whole. c.needed (λ e. let no : false ≡ true = e in cc);
-              rest = both (λ a b c first second reserve. second (first reserve)) c.rest (wider cuts (λ told image cut. spare g (nor.bytes mid.nor.now) image (cut f.needs)));
+              rest = both (leaves_then g) c.rest (wider cuts (λ told image cut. spare g (nor.bytes mid.nor.now) image (cut f.needs)));
             };
       }

@@ -42,7 +42,7 @@ use Rattle.file_calls.specs.Cuts.{CanCut, JobCut, cutting}
 use Rattle.file_calls.specs.Cleans.{index_taken, Taken}
 use Rattle.file_calls.specs.Goes.{Goes}
 use Rattle.file_calls.proofs.Numbered.{numbered_fine}
-use Rattle.file_calls.proofs.CleansBy.{cleans_as, taken_as, taken_after, taken_then}
+use Rattle.file_calls.proofs.CleansBy.{step_leaves, cleans_as, taken_as, taken_after, taken_then}
 use Rattle.file_calls.proofs.TurnsBy.{index_few, few_once, turns_once}
 use Rattle.file_calls.proofs.Going.{is_flat, not_collects, IsOneStep, one_step, one_does, before_or_after, IsStep, some_steps, goes_by, no_gift, refuses_same, stop_slots}
 use Rattle.file_calls.proofs.Paged.{room_for_one, left_since}
@@ -102,7 +102,7 @@ then_cuts : (g : Geometry) (was mid : List ℕ) (id size : ℕ) (f : File) → C
 then_cuts g was mid id size f can made = record {
   needs = record { tidy = made.tidy; had = made.ready.had; there = ap (file_of id) made.table ∙ can.there; less = can.less };
   cut = λ c cut. left_since g (put_file (shortened size f) (table_of g was)) was mid c made
-      (record { sound = cut.sound; reserve = cut.reserve; table = ⊎_elim (λ before. inl before) (λ after. inr (after ∙ ap (put_file (shortened size f)) made.table)) cut.table });
+      (record { sound = cut.sound; reserve = cut.reserve; wear = cut.wear; table = ⊎_elim (λ before. inl before) (λ after. inr (after ∙ ap (put_file (shortened size f)) made.table)) cut.table });
   done = λ c ok done. record { tidy = done.tidy; table = done.table ∙ ap (put_file (shortened size f)) made.table; reserve = λ reserve. done.reserve made.ready.reserve };
 }
 
@@ -119,7 +119,7 @@ module _ {N : Type 0} {nor : NorOf N} {old new : View N nor} (id size : ℕ) (f 
 
   -- one was had, and then the file was to be cut
   pub cut_then : {mid : View N nor} {r : Result (Unit {0}) StepErr} → Taken stopped 1 0 old mid (Ok true) seeking_page → Stepped stopped mid new r (truncating id size f) → Taken stopped 1 0 old new r (where_true (cutting id size f))
-  cut_then first next = taken_then (λ h was image cut. cut.reserve) first next
+  cut_then first next = taken_then (λ h was image cut. step_leaves cut) first next
       (λ tells can. record { needs = record { tidy = can.tidy; reserve = can.reserve }; cut = λ c cut. seek_cut _ _ _ c cut })
       (λ tells can made. then_cuts _ _ _ id size f can made)
 

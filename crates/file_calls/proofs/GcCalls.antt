@@ -27,10 +27,11 @@ use Rattle.flash_view.specs.Steps.{Stepped, as_fs_err, stopped}
 use Rattle.flash_view.proofs.Stepped.{view_image}
 use Rattle.fd_table.specs.declared.slot.FdSlot.{FdSlot}
 use Rattle.file_calls.specs.Collecting.{RoomCut, packing}
-use Rattle.file_calls.specs.Cleans.{SweptFor, CleansFor}
+use Rattle.file_calls.specs.Cleans.{SweptFor, LeavesBlocks, CleansFor}
 use Rattle.file_calls.specs.States.{IsImageOf}
 use Rattle.file_calls.specs.Replies.{is_of_slots, may_answer}
 use Rattle.file_calls.specs.Goes.{CallCut, IsDoable, IsCorner, Goes}
+use Rattle.file_calls.proofs.CleansBy.{leaves_none}
 use Rattle.file_calls.proofs.Numbered.{numbered_fine}
 use Rattle.file_calls.proofs.Going.{IsFit, goes_by, is_first, no_gift, refuses_same, stop_slots, stop_apart, step_stops, step_among, fault_is}
 
@@ -53,7 +54,7 @@ room_cleans {d = d} old changes tidy idle needed = record {
   first = wider changes (λ tells image cut. cut tidy);
   idle = idle;
   needed = needed;
-  rest = unchanged d (λ was image. HasReserve old.geometry was → HasReserve old.geometry image) (λ tells reserve. reserve);
+  rest = unchanged d (LeavesBlocks old.geometry) (λ tells. leaves_none old.geometry (nor.bytes d));
 }
 
 -- a step of it that was not done met a fault

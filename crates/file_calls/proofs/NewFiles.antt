@@ -61,6 +61,7 @@ module _ {D : Type 0} {nor : NorOf D} {g : Geometry} {old : D} {slots : List FdS
       (λ s here mid same image cut. record {
         sound = cut.sound;
         reserve = λ reserve. cut.reserve;
+        wear = cut.wear;
         table = ⊎_elim (λ before. inl before) (λ after. inr (after ∙ with_new mid id same (prepared here.tells here.tidy).1)) cut.table;
       })
       (λ s here mid same now done. record { tidy = done.tidy; table = done.table ∙ with_new mid id same (prepared here.tells here.tidy).1; reserve = λ reserve. done.reserve })

@@ -136,7 +136,7 @@ pub with_page_not_had : {N : Type 0} {nor : NorOf N} {old mid : View N nor} {ste
 with_page_not_had call = taken_as call (fails_as call.steps (λ e. e) (λ e. e) call.steps.means (λ tells need. record { needs = need.0; cut = λ c cut. inl cut })) (λ tells need. need.0) (λ e. e)
 
 module _ {N : Type 0} {nor : NorOf N} {old mid new : View N nor} {step : Step (Unit {0})} where
-  -- one was, and the step was taken, in which two free blocks stay free
+  -- one was, and the step was taken, which cleans no block
   pub with_page_had : {E : Type 0} {errors : Errors E} {r : Result (Unit {0}) E} → StaysSpare step → Taken refusing 1 0 old mid (Ok tt) taking_page → Stepped errors mid new r step → Taken errors 1 0 old new r (with_room step)
   with_page_had spare first next = taken_then spare first next
       (λ tells need. record { needs = need.0; cut = λ c cut. inl cut })

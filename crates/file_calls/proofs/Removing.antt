@@ -33,7 +33,7 @@ use Rattle.file_calls.specs.States.{IsImageOf}
 use Rattle.file_calls.specs.Cleans.{Taken}
 use Rattle.file_calls.specs.Removes.{id_named, IsMissing}
 use Rattle.room_laws.proofs.Staying.{reserve_mends}
-use Rattle.file_calls.proofs.CleansBy.{untaken}
+use Rattle.file_calls.proofs.CleansBy.{remove_leaves, untaken}
 use Rattle.file_calls.proofs.Going.{room_stays, IsOneStep, one_step, one_does, before_or_after, IsStep}
 
 -- ---- the file of a name
@@ -121,4 +121,4 @@ module _ {D : Type 0} {nor : NorOf D} {g : Geometry} {old : D} {slots : List FdS
 
 -- no page is taken for it
 pub removal_taken : {N E : Type 0} {nor : NorOf N} {errors : Errors E} {old new : View N nor} {r : Result (Unit {0}) E} {id : ℕ} → Stepped errors old new r (removing id) → Taken errors 0 0 old new r (removing id)
-removal_taken {old = old} call = untaken call (λ tells can. room_stays old.geometry _ can.tidy) (λ h was image cut reserve. let free = cut.free in omega (arith, reserve, free))
+removal_taken {old = old} call = untaken call (λ tells can. room_stays old.geometry _ can.tidy) (λ h was image cut. remove_leaves cut)

@@ -194,6 +194,7 @@ module _ {D : Type 0} {nor : NorOf D} {g : Geometry} {old : D} {slots : List FdS
       (λ s here mid same image cut. record {
         sound = cut.sound;
         reserve = cut.reserve;
+        wear = cut.wear;
         table = ⊎_elim (λ before. inl before) (λ after. inr (after ∙ ap (put_file (restated edit f)) same)) cut.table;
       })
       (λ s here mid same now done. record { tidy = done.tidy; table = done.table ∙ ap (put_file (restated edit f)) same; reserve = done.reserve })

@@ -30,7 +30,7 @@ use Rattle.file_calls.specs.Collecting.{RoomCut, CanTakePages, refusing, taking_
 use Rattle.file_calls.specs.Cuts.{JobCut}
 use Rattle.file_calls.specs.Cleans.{Taken, IsFew, Turned, NeedsNoTail}
 use Rattle.file_calls.specs.Writings.{CanWritePart, CanHaveTail, HasTail, CanNeedTail, writing_part, having_tail, needing_tail}
-use Rattle.file_calls.proofs.CleansBy.{taken_passes, taken_then}
+use Rattle.file_calls.proofs.CleansBy.{step_leaves, taken_passes, taken_then}
 use Rattle.file_calls.proofs.TurnsBy.{few_once, turned_once, turned_passes, turned_never, turned_then}
 use Rattle.file_calls.proofs.Going.{tidy_sound}
 use Rattle.file_calls.proofs.Resizing.{written_size}
@@ -226,7 +226,7 @@ module _ {N : Type 0} {nor : NorOf N} {old new : View N nor} {r : Result (Unit {
   -- .. or they were, and then the page step was taken
   pub paged_then : {mid : View N nor} {x : Unit {0}} → Taken refusing count 1 old mid (Ok x) (taking_pages count 1) → Stepped refusing mid new r (appending id bytes f) → Turned refusing (λ g was. Unit {0}) 1 old new r (writing_part id true at bytes f)
   paged_then {mid} call next = turned_once (pages_few old.geometry at count is) (omega arith) (λ tells can. few_once (omega arith))
-      (taken_then (λ g was image cut reserve. cut.reserve reserve) call next
+      (taken_then (λ g was image cut. step_leaves cut) call next
       (λ tells can. pages_begin old.geometry (nor.bytes old.nor.now) id at bytes f can end count is)
       (λ tells can made. pages_end old.geometry (nor.bytes old.nor.now) id at bytes f can end count is (nor.bytes mid.nor.now) made))
 

@@ -10,7 +10,6 @@ ghost use Rattle.file_calls.specs.Replies.{reply_of};
 ghost use Rattle.file_calls.specs.Goes.{Goes, StandsOn};
 
 use crate::Told;
-use crate::steps::failed_as;
 use block_gc::{RoomErr, compact, make_room};
 use flash_view::{StepErr, View};
 use nor_core::{Nor, NorState};
@@ -30,7 +29,7 @@ pub(crate) fn take_pages<N: Nor>(v: &mut View<'_, N>, index: u32, pages: u32) ->
     match make_room(v, index, pages) {
         Ok(()) => Ok(()),
         Err(RoomErr::Tight) => Err(FsErr::Tight),
-        Err(RoomErr::Step(why)) => Err(failed_as(why)),
+        Err(RoomErr::Step(why)) => Err(FsErr::from(why)),
     }
 }
 
@@ -68,6 +67,6 @@ pub(crate) fn collect_in<N: Nor>(v: &mut View<'_, N>) -> Result<Told, FsErr>
     match pack(v) {
         Ok(false) => Ok(Told::Done),
         Ok(true) => Err(FsErr::Tight),
-        Err(why) => Err(failed_as(why)),
+        Err(why) => Err(FsErr::from(why)),
     }
 }

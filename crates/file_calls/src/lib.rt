@@ -15,7 +15,6 @@ mod restating;
 mod room;
 mod slots;
 mod space;
-mod steps;
 mod told;
 mod truncating;
 mod writing;

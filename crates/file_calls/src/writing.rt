@@ -13,12 +13,11 @@ ghost use Rattle.file_calls.specs.Writings.{CanWrite, writing_part, writing, hav
 
 use crate::collecting::take_pages;
 use crate::reading::record_of;
-use crate::steps::failed_as;
 use file_read::no_header;
 use file_write::{append_step, is_tail_ready, overwrite_step, ready_tail};
 use flash_view::View;
 use geometry::Geometry;
-use nor_core::{Failed, Nor, NorState};
+use nor_core::{Nor, NorState};
 use table_model::FsErr;
 
 // Overwrites bytes of a file inside one data page, once pages are had.
@@ -27,10 +26,8 @@ fn overwrite_part<N: Nor>(v: &mut View<'_, N>, id: u16, at: u32, bytes: &[u8]) -
         Taken refusing 1 1 v.old v.new result (writing_part id known at bytes.now f) }
 {
     take_pages(v, 1, 1)?;
-    match overwrite_step(v, id, at, bytes) {
-        Ok(()) => Ok(()),
-        Err(why) => Err(failed_as(why)),
-    }
+    overwrite_step(v, id, at, bytes)?;
+    Ok(())
 }
 
 // How many index pages an append to a file of that size in bytes needs: two where it makes the first data page of a further index page.
@@ -53,16 +50,12 @@ fn have_tail<N: Nor>(v: &mut View<'_, N>, id: u16) -> Result<(), FsErr>
     ensures steps { Turned refusing (λ g was. IsTailReady g was id) 0 v.old v.new result (having_tail id) }
     ensures still { N.tells v.old.nor.now → HasReadyTail v.old.geometry (N.bytes v.old.nor.now) id → OnlyLooks v.old v.new }
 {
-    match is_tail_ready(v, id) {
-        Err(Failed) => return Err(FsErr::DeviceFault),
-        Ok(true) => return Ok(()),
-        Ok(false) => {}
+    if is_tail_ready(v, id)? {
+        return Ok(());
     }
     take_pages(v, 1, 1)?;
-    match ready_tail(v, id) {
-        Ok(()) => Ok(()),
-        Err(why) => Err(failed_as(why)),
-    }
+    ready_tail(v, id)?;
+    Ok(())
 }
 
 // The same, where it isn't known to be ready.
@@ -90,10 +83,8 @@ fn append_part<N: Nor>(
     let g = v.geometry;
     need_tail(v, id, known)?;
     take_pages(v, index_needed(&g, size), 1)?;
-    match append_step(v, id, bytes) {
-        Ok(()) => Ok(()),
-        Err(why) => Err(failed_as(why)),
-    }
+    append_step(v, id, bytes)?;
+    Ok(())
 }
 
 // Writes one part of a write: inside a file of that size in bytes, or at its end, where its tail may be known to be ready.

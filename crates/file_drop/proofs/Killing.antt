@@ -10,7 +10,7 @@ use Rattle.image_model.specs.Headers.{names_index, span_of}
 use Rattle.image_model.specs.Places.{is_entry_page}
 use Rattle.image_model.specs.Live.{Live, live_at, own}
 use Rattle.image_model.specs.Tidy.{is_free_entry}
-use Rattle.image_model.specs.Sound.{HasMagics, KeepsAll}
+use Rattle.image_model.specs.Sound.{HasMagics}
 use Rattle.image_laws.specs.LiveSteps.{KillLeaves, KillDone}
 use Rattle.image_laws.specs.Remove.{Orphans}
 use Rattle.image_laws.proofs.Append.{own-live}
@@ -21,11 +21,12 @@ use Rattle.image_laws.proofs.TidySteps.{tidy_live}
 use Rattle.renew_laws.specs.Idles.{Idles}
 use Rattle.renew_laws.specs.Truncate.{is_past}
 use Rattle.renew_laws.proofs.IdleKill.{idle-kills}
+use Rattle.trim_laws.proofs.Wears.{programs_keep}
 use Rattle.flash_view.specs.Steps.{Finishes}
 use Rattle.page_put.specs.LivePages.{killing, Stays, Cleared}
 use Rattle.page_renew.specs.EditLaws.{past_of}
 use Rattle.file_drop.specs.declared.pages.Kept.{Kept}
-use Rattle.file_drop.specs.Drops.{none_kept, is_left, HasLeft, DropsPage, dropping}
+use Rattle.file_drop.specs.Drops.{none_kept, is_left, HasLeft, DropCut, DropsPage, dropping}
 
 -- ---- the pages of an id
 
@@ -62,8 +63,10 @@ module _ (g : Geometry) (a : List ℕ) (id : ℕ) (kept : Kept) (p : ℕ) (o : H
   live : live_at g a p ≡ Some page.0
   live = (own-parts (live_at g a) id p page.0 page.1).0
 
-  cut : (c : List ℕ) → KillLeaves g p a c → KeepsAll g a c
-  cut c h = let w = (idle-kills g a p page.0 (λ (q : ℕ). is_left g a id kept q) o mine live).0 c h in record { keeps = w.0; free = w.1 }
+  cut : (c : List ℕ) → KillLeaves g p a c → DropCut g a c
+  cut c h =
+      let w = (idle-kills g a p page.0 (λ (q : ℕ). is_left g a id kept q) o mine live).0 c h in
+      record { all = record { keeps = w.0; free = w.1 }; wear = programs_keep g a c p h.agree }
 
   module _ (c : List ℕ) (h : KillDone g p a c) where
     gone : is_left g c id kept p ≡ false
@@ -82,7 +85,7 @@ module _ (g : Geometry) (a : List ℕ) (id : ℕ) (kept : Kept) (p : ℕ) (o : H
     done =
         let w = (idle-kills g a p page.0 (λ (q : ℕ). is_left g a id kept q) o mine live).1 c h in
         record {
-          keeps = record { keeps = w.0; free = w.1 };
+          keeps = record { all = record { keeps = w.0; free = w.1 }; wear = programs_keep g a c p h.agree };
           left = subst (λ (t : ℕ → Bool). Idles g t c) (fun_ext same) w.2;
           gone = gone;
           others = λ q e. ⊎_elim (λ (here : q ≡ p). rw here gone) (λ (there : q ≡ p → ⊥). other q there ∙ e) (cases_eq q p);
@@ -94,8 +97,11 @@ drops g a id kept p head o mine byte = record { needs = record { live = ap is_so
 
 -- ---- a page of the id that isn't live, as its header page is
 
-pub dead_keeps : (g : Geometry) (a c : List ℕ) (p : ℕ) → HasMagics g a → is_entry_page g p ≡ true → is_free_entry g a p ≡ false → Stays g p a c → KeepsAll g a c
-dead_keeps g a c p magics inside used h = record { keeps = keeps-by_live g a c magics h.agree.magic h.live; free = (free_blocks-fall g a c p h.agree).1 (used-is_not_free g a p inside used) }
+pub dead_keeps : (g : Geometry) (a c : List ℕ) (p : ℕ) → HasMagics g a → is_entry_page g p ≡ true → is_free_entry g a p ≡ false → Stays g p a c → DropCut g a c
+dead_keeps g a c p magics inside used h = record {
+  all = record { keeps = keeps-by_live g a c magics h.agree.magic h.live; free = (free_blocks-fall g a c p h.agree).1 (used-is_not_free g a p inside used) };
+  wear = programs_keep g a c p h.agree;
+}
 
 pub dead_orphans : (g : Geometry) (a c : List ℕ) (id p : ℕ) (spare : ℕ → Bool) → Orphans g spare a → ((q : ℕ) → q ≢ p → spare q ≡ true → is_left g a id none_kept q ≡ true) → ((q : ℕ) → is_left g a id none_kept q ≡ true → spare q ≡ true) →
     Cleared g p a c → HasLeft g id none_kept c

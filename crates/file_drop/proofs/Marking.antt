@@ -14,7 +14,7 @@ use Rattle.image_model.specs.Live.{live_at, own}
 use Rattle.image_model.specs.Files.{is_index}
 use Rattle.image_model.specs.Tables.{damaged_of}
 use Rattle.image_model.specs.Tidy.{free_blocks}
-use Rattle.image_model.specs.Sound.{HasMagics, IsSound, KeepsAll}
+use Rattle.image_model.specs.Sound.{HasMagics, IsSound}
 use Rattle.image_laws.specs.Changes.{Loses}
 use Rattle.image_laws.specs.Flash.{Programmed}
 use Rattle.image_laws.specs.Programs.{ClearsBit, HasOneHead}
@@ -35,13 +35,13 @@ use Rattle.image_laws.proofs.TidySteps.{tidy-is_tidy}
 use Rattle.header_laws.proofs.Telling.{one-head}
 use Rattle.trim_laws.specs.Wear.{SameWear, Worn}
 use Rattle.trim_laws.proofs.Trims.{flags_trim}
-use Rattle.trim_laws.proofs.Wears.{inside_keeps, upkeep_same, worn_same}
+use Rattle.trim_laws.proofs.Wears.{inside_keeps, upkeep_same, wear_then, worn_same}
 use Rattle.flash_view.specs.Steps.{Begins, Finishes, making}
 use Rattle.page_put.specs.LivePages.{clearing, Stays, Cleared}
 use Rattle.page_put.specs.Recount.{IsUsedPage}
 use Rattle.page_put.proofs.UsedPages.{live_used}
 use Rattle.page_put.proofs.Clearing.{left_half, left_done, clears_mark, below_byte}
-use Rattle.file_drop.specs.Drops.{none_kept, is_left}
+use Rattle.file_drop.specs.Drops.{none_kept, is_left, DropCut}
 use Rattle.file_drop.specs.Removals.{CanDrop, RemoveCut, HeaderDropped, dropping_header}
 use Rattle.file_drop.specs.Programs.{past_in, pages_of}
 use Rattle.file_drop.proofs.Killing.{some_page, own_none, all_left, dead_keeps, dead_orphans}
@@ -106,11 +106,15 @@ module _ (g : Geometry) (a : List ℕ) (id p : ℕ) (is : IsImage g a) (can : Ca
   sound : (c : List ℕ) → HalfProgrammed at (flags ∷ []) a c → IsSound g c a × (damaged_of g c ≡ []) × (free_blocks g a ≤ free_blocks g c)
   sound c half = removing-is_sound g a c p flags id 6 page.0 start magics half
 
+  -- all erase counts stay
+  marked_wear : (c : List ℕ) → HalfProgrammed (p * g.page + 4) (0xBF ∷ []) a c → SameWear g a c
+  marked_wear c h = inside_keeps g a c p (p * g.page + 4) 1 parts.entry_page (omega arith) (omega (arith, (sizes g).page)) h.outside
+
   mark_cut : (c : List ℕ) → HalfProgrammed at (0xBF ∷ []) a c → RemoveCut g a id c
   mark_cut c h =
       let half = left_half at 0xBF a c h in
       let left = sound c half in
-      record { sound = left.0; table = removing-drops g a c p flags id 6 page.0 is (inl refl) clears one half; free = left.2 }
+      record { sound = left.0; table = removing-drops g a c p flags id 6 page.0 is (inl refl) clears one half; free = left.2; wear = marked_wear c h }
 
   program : Programmed at (flags ∷ []) a marked
   program = left_done at 0xBF a
@@ -127,16 +131,15 @@ module _ (g : Geometry) (a : List ℕ) (id p : ℕ) (is : IsImage g a) (can : Ca
   left : Removed g p id a marked
   left = removing-leaves g a marked p flags id 6 page.0 start can.can.tidy program
 
-  -- all erase counts stay
-  marked_wear : (c : List ℕ) → HalfProgrammed (p * g.page + 4) (0xBF ∷ []) a c → SameWear g a c
-  marked_wear c h = inside_keeps g a c p (p * g.page + 4) 1 parts.entry_page (omega arith) (omega (arith, (sizes g).page)) h.outside
+  wear_now : SameWear g a marked
+  wear_now = marked_wear marked (half_programmed a at (0xBF ∷ []))
 
   pub marks : Begins g a (making (λ h l. IsUsedPage h l p) (λ h. HalfProgrammed (p * h.page + 4) (0xBF ∷ [])) (λ h b. programmed b (p * h.page + 4) (0xBF ∷ []))) (dropping_header id p)
   marks = record {
     needs = (
       live_used g a p page.0 live,
       (λ c h. upkeep_same g a c (flags_trim g a c p page.0 (0xBF ∷ []) is live refl h) (marked_wear c h)),
-      λ c now. subst (λ (l : List ℕ). Worn g a l) (sym now) (worn_same g a _ (marked_wear _ (half_programmed a (p * g.page + 4) (0xBF ∷ [])))),
+      λ c now. subst (λ (l : List ℕ). Worn g a l) (sym now) (worn_same g a marked wear_now),
     );
     cut = mark_cut;
   }
@@ -149,14 +152,19 @@ module _ (g : Geometry) (a : List ℕ) (id p : ℕ) (is : IsImage g a) (can : Ca
   magics_now : HasMagics g marked
   magics_now = tidy-has_magics g marked (λ r. is_some (own (live_at g a) id r)) left.orphans.tidy
 
-  kept : (c : List ℕ) → Stays g p marked c → KeepsAll g marked c
+  kept : (c : List ℕ) → Stays g p marked c → DropCut g marked c
   kept c h = dead_keeps g marked c p magics_now parts.entry_page left.used h
 
   cut : (c : List ℕ) → Stays g p marked c → RemoveCut g a id c
   cut c h =
       let before = sound marked half in
       let after = kept c h in
-      record { sound = sound-on g a marked c before.0 after.keeps.sound; table = inr (after.keeps.table ∙ left.table); free = omega (arith, before.2, after.free) }
+      record {
+        sound = sound-on g a marked c before.0 after.all.keeps.sound;
+        table = inr (after.all.keeps.table ∙ left.table);
+        free = omega (arith, before.2, after.all.free);
+        wear = wear_then g a marked c wear_now after.wear;
+      }
 
   leaves : (q : ℕ) → q ≢ p → is_some (own (live_at g a) id q) ≡ true → is_left g marked id none_kept q ≡ true
   leaves q there mine = all_left g marked id q ∙ ap is_some (own-live (live_at g a) (live_at g marked) id q (loses.others q there)) ∙ mine
@@ -190,9 +198,10 @@ module _ (g : Geometry) (a : List ℕ) (id p : ℕ) (is : IsImage g a) (can : Ca
       let before = sound marked half in
       let after = kept c h.stays in
       record {
-        sound = sound-on g a marked c before.0 after.keeps.sound;
-        table = after.keeps.table ∙ left.table;
-        free = omega (arith, before.2, after.free);
+        sound = sound-on g a marked c before.0 after.all.keeps.sound;
+        table = after.all.keeps.table ∙ left.table;
+        free = omega (arith, before.2, after.all.free);
+        wear = wear_then g a marked c wear_now after.wear;
         left = dead_orphans g marked c id p (λ r. is_some (own (live_at g a) id r)) left.orphans leaves back h;
         fewer = one_page_fewer c h.stays;
       }

@@ -9,7 +9,7 @@ use Rattle.geometry.specs.Numbers.{page_count}
 use Rattle.image_model.specs.Within.{page_number}
 use Rattle.image_model.specs.Places.{IsImage}
 use Rattle.image_model.specs.Live.{live_at, own}
-use Rattle.image_model.specs.Sound.{HasMagics, KeepsAll}
+use Rattle.image_model.specs.Sound.{HasMagics}
 use Rattle.image_laws.proofs.Finish.{own-parts}
 use Rattle.image_laws.proofs.Frames.{live_parts}
 use Rattle.image_laws.proofs.Sounding.{keeps-itself, keeps-on, sound-on}
@@ -19,9 +19,10 @@ use Rattle.renew_laws.specs.Idles.{Idles}
 use Rattle.renew_laws.proofs.IdleKill.{idles-end}
 use Rattle.image_laws.specs.Remove.{Orphans}
 use Rattle.image_laws.specs.Spares.{Spares}
+use Rattle.trim_laws.proofs.Wears.{wear_none, wear_then}
 use Rattle.flash_view.specs.Steps.{Step, Begins, Finishes}
 use Rattle.file_drop.specs.declared.pages.Kept.{Kept}
-use Rattle.file_drop.specs.Drops.{none_kept, is_left, HasLeft, DropsPage, dropping, dropping_all}
+use Rattle.file_drop.specs.Drops.{none_kept, is_left, HasLeft, DropCut, DropsPage, dropping, dropping_all}
 use Rattle.file_drop.specs.Removals.{CanRemove, CanDrop, RemoveCut, HeaderDropped, dropping_header, removing_by, removing}
 use Rattle.file_drop.proofs.Killing.{past_page}
 
@@ -37,26 +38,32 @@ pub on_ok : {X Y : Type 0} (r : Result X Y) {P Q : Type 0} → (P → Q) → OnO
 on_ok (Ok x) f h = f h
 on_ok (Err e) f h = tt
 
-pub keeps_none : (g : Geometry) (id : ℕ) (kept : Kept) (a : List ℕ) → HasLeft g id kept a → KeepsAll g a a
-keeps_none g id kept a o = record { keeps = keeps-itself g a (idles-magics g a (λ (q : ℕ). is_left g a id kept q) o); free = omega arith }
+pub keeps_none : (g : Geometry) (id : ℕ) (kept : Kept) (a : List ℕ) → HasLeft g id kept a → DropCut g a a
+keeps_none g id kept a o = record {
+  all = record { keeps = keeps-itself g a (idles-magics g a (λ (q : ℕ). is_left g a id kept q) o); free = omega arith };
+  wear = wear_none g a;
+}
 
-keeps_then : (g : Geometry) (a b c : List ℕ) → KeepsAll g a b → KeepsAll g b c → KeepsAll g a c
-keeps_then g a b c x y = record { keeps = keeps-on g a b c x.keeps y.keeps; free = omega (arith, x.free, y.free) }
+keeps_then : (g : Geometry) (a b c : List ℕ) → DropCut g a b → DropCut g b c → DropCut g a c
+keeps_then g a b c x y = record {
+  all = record { keeps = keeps-on g a b c x.all.keeps y.all.keeps; free = omega (arith, x.all.free, y.all.free) };
+  wear = wear_then g a b c x.wear y.wear;
+}
 
 -- ---- page by page
 
 -- no page below n is to go, and no other page than before
 pub record Dropping (g : Geometry) (was now : List ℕ) (id : ℕ) (kept : Kept) (n : ℕ) : Type 0 where
-  pub keeps : KeepsAll g was now
+  pub keeps : DropCut g was now
   pub left : HasLeft g id kept now
   pub passed : (q : ℕ) → q < n → is_left g now id kept q ≡ false
   pub others : (q : ℕ) → is_left g was id kept q ≡ false → is_left g now id kept q ≡ false
 
 -- the turns of the pages below n
 abbrev pub dropping_to : ℕ → Kept → ℕ → Step (Unit {0})
-dropping_to id kept n = record { needs = λ g was. HasLeft g id kept was; cut = λ g was image. KeepsAll g was image; done = λ g was now ok. Dropping g was now id kept n }
+dropping_to id kept n = record { needs = λ g was. HasLeft g id kept was; cut = λ g was image. DropCut g was image; done = λ g was now ok. Dropping g was now id kept n }
 
-pub none_yet : (g : Geometry) (a : List ℕ) (id : ℕ) (kept : Kept) → HasLeft g id kept a → KeepsAll g a a × Dropping g a a id kept 0
+pub none_yet : (g : Geometry) (a : List ℕ) (id : ℕ) (kept : Kept) → HasLeft g id kept a → DropCut g a a × Dropping g a a id kept 0
 none_yet g a id kept o = (keeps_none g id kept a o, record { keeps = keeps_none g id kept a o; left = o; passed = λ q low. absurd (omega arith); others = λ q e. e })
 
 -- pages that are passed over aren't to go
@@ -126,7 +133,7 @@ drops_none g a id kept p other o = record { keeps = keeps_none g id kept a o; le
 pub stays : (g : Geometry) (a : List ℕ) (id : ℕ) → CanRemove g a id → RemoveCut g a id a
 stays g a id can =
     let m : HasMagics g a = tidy-has_magics g a (λ q. false) ((tidy-is_tidy g a (λ q. false)).0 can.tidy) in
-    record { sound = (keeps-itself g a m).sound; table = inl refl; free = omega arith }
+    record { sound = (keeps-itself g a m).sound; table = inl refl; free = omega arith; wear = wear_none g a }
 
 pub header_first : (g : Geometry) (a : List ℕ) (id p : ℕ) → CanDrop g a id p → Begins g a (dropping_header id p) (removing_by id p)
 header_first g a id p can = record { needs = can; cut = λ c cut. cut }
@@ -134,8 +141,13 @@ header_first g a id p can = record { needs = can; cut = λ c cut. cut }
 pub pages_then : (g : Geometry) (a b : List ℕ) (id p : ℕ) → HeaderDropped g a id b → Finishes g a b (dropping_all id none_kept) (removing_by id p)
 pages_then g a b id p s = record {
   needs = s.left;
-  cut = λ c k. record { sound = sound-on g a b c s.sound k.keeps.sound; table = inr (k.keeps.table ∙ s.table); free = omega (arith, s.free, k.free) };
-  done = λ c ok k. record { tidy = k.tidy; table = k.keeps.keeps.table ∙ s.table; free = omega (arith, s.free, k.keeps.free) };
+  cut = λ c k. record {
+    sound = sound-on g a b c s.sound k.all.keeps.sound;
+    table = inr (k.all.keeps.table ∙ s.table);
+    free = omega (arith, s.free, k.all.free);
+    wear = wear_then g a b c s.wear k.wear;
+  };
+  done = λ c ok k. record { tidy = k.tidy; table = k.keeps.all.keeps.table ∙ s.table; free = omega (arith, s.free, k.keeps.all.free) };
 }
 
 pub by_header : (g : Geometry) (a : List ℕ) (id p : ℕ) → CanDrop g a id p → Finishes g a a (removing_by id p) (removing id)

@@ -17,6 +17,7 @@ use Rattle.image_laws.proofs.Unshared.{counted-le}
 use Rattle.header_laws.proofs.Telling.{files-have_heads}
 use Rattle.renew_laws.specs.Primed.{Primed}
 use Rattle.renew_laws.proofs.PrimeBeside.{prime-starts}
+use Rattle.trim_laws.proofs.Wears.{wear_then}
 use Rattle.flash_view.specs.Steps.{Begins, Finishes}
 use Rattle.page_renew.specs.declared.edits.Edit.TheVariants.{Cut}
 use Rattle.page_renew.specs.EditLaws.{past_of}
@@ -97,6 +98,11 @@ module _ (g : Geometry) (a : List ℕ) (id size : ℕ) (f : File) (is : IsImage 
   pub then_drops : (kept : Kept) → kept.index_pages ≡ index_pages g size → kept.data_pages ≡ data_pages g size → (b : List ℕ) → EditDone g id (Cut size) (shortened size f) a b → Finishes g a b (dropping_all id kept) (truncating id size f)
   then_drops kept index pages b done = record {
     needs = rw (index, pages) (cut-leaves g a b id start.0 start.1 f (shortened size f) size prime less done);
-    cut = λ c k. record { sound = sound-on g a b c done.sound k.keeps.sound; table = inr (k.keeps.table ∙ done.table); reserve = λ two. let now = done.reserve two in omega (arith, now, k.free) };
-    done = λ c ok k. record { tidy = k.tidy; table = k.keeps.keeps.table ∙ done.table; reserve = λ two. let now = done.reserve two in omega (arith, now, k.keeps.free) };
+    cut = λ c k. record {
+      sound = sound-on g a b c done.sound k.all.keeps.sound;
+      table = inr (k.all.keeps.table ∙ done.table);
+      reserve = λ two. let now = done.reserve two in omega (arith, now, k.all.free);
+      wear = wear_then g a b c done.wear k.wear;
+    };
+    done = λ c ok k. record { tidy = k.tidy; table = k.keeps.all.keeps.table ∙ done.table; reserve = λ two. let now = done.reserve two in omega (arith, now, k.keeps.all.free) };
   }

@@ -8,6 +8,7 @@ use Rattle.image_model.specs.Live.{live_at, own}
 use Rattle.image_model.specs.Sound.{KeepsAll}
 use Rattle.image_model.specs.Tidy.{IsTidy}
 use Rattle.renew_laws.specs.Idles.{Idles}
+use Rattle.trim_laws.specs.Wear.{SameWear}
 use Rattle.flash_view.specs.Steps.{Step}
 use Rattle.page_renew.specs.EditLaws.{past_of}
 use Rattle.file_drop.specs.declared.pages.Kept.{Kept}
@@ -28,16 +29,21 @@ is_past_header kept head = if names_index head then nat_le kept.index_pages head
 abbrev pub HasLeft : Geometry → ℕ → Kept → List ℕ → Type 0
 HasLeft g id kept image = Idles g (λ p. is_left g image id kept p) image
 
+-- A kill of such pages keeps all files and free blocks at each cut, and makes no block fresh.
+pub record DropCut (g : Geometry) (was image : List ℕ) : Type 0 where
+  pub all : KeepsAll g was image
+  pub wear : SameWear g was image
+
 -- After a turn at page p that is no such page, and no other page is one that wasn't.
 pub record DropsPage (g : Geometry) (id : ℕ) (kept : Kept) (p : ℕ) (was now : List ℕ) : Type 0 where
-  pub keeps : KeepsAll g was now
+  pub keeps : DropCut g was now
   pub left : HasLeft g id kept now
   pub gone : is_left g now id kept p ≡ false
   pub others : (q : ℕ) → is_left g was id kept q ≡ false → is_left g now id kept q ≡ false
 
 -- After all turns the image is tidy.
 pub record DropsPages (g : Geometry) (was now : List ℕ) : Type 0 where
-  pub keeps : KeepsAll g was now
+  pub keeps : DropCut g was now
   pub tidy : IsTidy g now
 
 -- ---- the steps: a turn at page p, which is live with a header, and all turns
@@ -45,9 +51,9 @@ pub record DropsPages (g : Geometry) (was now : List ℕ) : Type 0 where
 abbrev pub dropping : ℕ → Kept → ℕ → PageHeader → Step (Unit {0})
 dropping id kept p head = record {
   needs = λ g was. HasLeft g id kept was × (Some head ≡ option_map header_at (live_at g was p));
-  cut = λ g was image. KeepsAll g was image;
+  cut = λ g was image. DropCut g was image;
   done = λ g was now ok. DropsPage g id kept p was now;
 }
 
 abbrev pub dropping_all : ℕ → Kept → Step (Unit {0})
-dropping_all id kept = record { needs = λ g was. HasLeft g id kept was; cut = λ g was image. KeepsAll g was image; done = λ g was now ok. DropsPages g was now }
+dropping_all id kept = record { needs = λ g was. HasLeft g id kept was; cut = λ g was image. DropCut g was image; done = λ g was now ok. DropsPages g was now }

@@ -7,6 +7,7 @@ use Rattle.image_model.specs.Files.{index_page}
 use Rattle.image_model.specs.Tables.{table_of}
 use Rattle.image_model.specs.Tidy.{IsTidy, free_blocks}
 use Rattle.image_model.specs.Sound.{IsSound}
+use Rattle.trim_laws.specs.Wear.{SameWear}
 use Rattle.flash_view.specs.Steps.{Step}
 use Rattle.file_drop.specs.Drops.{HasLeft, none_kept}
 use Rattle.file_drop.specs.Programs.{pages_of}
@@ -16,11 +17,13 @@ pub record CanRemove (g : Geometry) (image : List ℕ) (id : ℕ) : Type 0 where
   pub tidy : IsTidy g image
   pub there : has_id id (table_of g image) ≡ true
 
--- A cut in a remove leaves an image that is sound, with no fewer free blocks, and the table is the one before or the one without the file.
+-- A cut in a remove leaves an image that is sound, with no fewer free blocks and no block made fresh, and the table is the one before or the one
+-- without the file.
 pub record RemoveCut (g : Geometry) (was : List ℕ) (id : ℕ) (image : List ℕ) : Type 0 where
   pub sound : IsSound g image was
   pub table : (table_of g image ≡ table_of g was) ⊎ (table_of g image ≡ drop_file id (table_of g was))
   pub free : free_blocks g was ≤ free_blocks g image
+  pub wear : SameWear g was image
 
 -- A remove that is done leaves an image that is tidy, with no fewer free blocks, and the file isn't in its table.
 pub record IsRemoved (g : Geometry) (was : List ℕ) (id : ℕ) (now : List ℕ) : Type 0 where
@@ -34,11 +37,13 @@ pub record CanDrop (g : Geometry) (image : List ℕ) (id p : ℕ) : Type 0 where
   pub first : index_page g (own (live_at g image) id) 0 ≡ Some p
   pub byte : slice_index image (p * g.page + 4) < 256
 
--- Once the header page is killed the file isn't in the table, and the image is tidy but for its other pages, one fewer than before.
+-- Once the header page is killed the file isn't in the table, and the image is tidy but for its other pages, one fewer than before. No block is
+-- made fresh.
 pub record HeaderDropped (g : Geometry) (was : List ℕ) (id : ℕ) (now : List ℕ) : Type 0 where
   pub sound : IsSound g now was
   pub table : table_of g now ≡ drop_file id (table_of g was)
   pub free : free_blocks g was ≤ free_blocks g now
+  pub wear : SameWear g was now
   pub left : HasLeft g id none_kept now
   pub fewer : pages_of g now id + 1 ≤ pages_of g was id
 

@@ -66,10 +66,10 @@ fn drop_by<N: Nor>(v: &mut View<'_, N>, header: u16, id: u16) -> Result<(), Fail
 }
 
 /// Removes the file of an id: its header page is marked, which is the step, then the header page, then every other page
-/// of the id is killed. At a cut the file is there whole or not at all, and a check frees what is left of it. The image
-/// is to be tidy, and its table to have a file of that id. Where that holds, a fault of the device is the one error, and it
-/// takes two programs at most for each live page of the id and one for the mark. On any image it takes two at most for each
-/// entry of the volume, and three.
+/// of the id is killed. At a cut the file is there whole or not at all, no block is made fresh, and a check frees what is
+/// left of it. The image is to be tidy, and its table to have a file of that id. Where that holds, a fault of the device is
+/// the one error, and it takes two programs at most for each live page of the id and one for the mark. On any image it takes
+/// two at most for each entry of the volume, and three.
 pub fn remove_step<N: Nor>(v: &mut View<'_, N>, id: u16) -> Result<(), StepErr>
     ensures step { Stepped stopped v.old v.new result (removing id) }
     ensures few { N.tells v.old.nor.now → CanRemove v.old.geometry (N.bytes v.old.nor.now) id →

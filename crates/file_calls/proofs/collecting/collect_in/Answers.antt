@@ -9,7 +9,7 @@ pub returns-in-Ok-true-clause-goes : goal.returns-in-Ok-true-clause-goes
 returns-in-Ok-true-clause-goes g c = λ slots into. gc_stuck slots c.requires.fresh (rw c.in-Ok-true.field-0-test at c.in-Ok-true.ensures)
 
 pub returns-in-Err-clause-goes : goal.returns-in-Err-clause-goes
-returns-in-Err-clause-goes g c = rw c.failed_as.ensures (λ slots into. gc_broken slots c.requires.fresh c.in-Err.why c.in-Err.ensures)
+returns-in-Err-clause-goes g c = rw c.from.ensures (λ slots into. gc_broken slots c.requires.fresh c.in-Err.why c.in-Err.ensures)
 
 pub returns-in-Ok-false-clause-counted : goal.returns-in-Ok-false-clause-counted
 returns-in-Ok-false-clause-counted g c = λ slots into. stands_collected slots _ c.in-Ok-false.ensures
@@ -18,4 +18,4 @@ pub returns-in-Ok-true-clause-counted : goal.returns-in-Ok-true-clause-counted
 returns-in-Ok-true-clause-counted g c = λ slots into. stands_collected slots _ c.in-Ok-true.ensures
 
 pub returns-in-Err-clause-counted : goal.returns-in-Err-clause-counted
-returns-in-Err-clause-counted g c = rw c.failed_as.ensures (λ slots into. stands_uncollected slots c.in-Err.why c.in-Err.ensures)
+returns-in-Err-clause-counted g c = rw c.from.ensures (λ slots into. stands_uncollected slots c.in-Err.why c.in-Err.ensures)

@@ -50,7 +50,7 @@ returns-in-Err-Step g c =
     let why = c.in-Err-Step.why in
     let is = c.in-Err-Step.field-0-is in
     let cuts = room_cuts c.args.v.now (g.met.N.Nor.sized _) failed.changes in
-    rw c.failed_as.ensures (record {
+    rw c.from.ensures (record {
       steps = record {
         framed = record { same = failed.same; wrote = failed.wrote; untouched = failed.untouched };
         cause = λ fault. failed.cause (ap (λ (w : RoomErr). Err w) (is ∙ ap Step (fault_is why (err_same (as_fs_err why) _ fault))));

@@ -1,7 +1,7 @@
 use Rattle.std.proofs.Common.{◌≡◌, rules, sym, ◌∙◌, ap, Err}
 use Rattle.geometry.specs.declared.geometry.Geometry.{Geometry}
 use Rattle.file_write.specs.Appends.{index_needed}
-use Rattle.file_calls.proofs.Going.{step_fails}
+use Rattle.file_calls.proofs.Going.{err_is, step_fails}
 use Rattle.file_calls.proofs.WriteParts.{step_does, paged_not, paged_then, append_not, append_then}
 use Rattle.file_calls.proofs.writing.append_part.Goals as goal
 
@@ -17,15 +17,15 @@ returns-in_err-take_pages g c = λ f end.
     let needed = c.index_needed.ensures ∙ ap (λ (k : Geometry). index_needed k c.args.size) (sym tail.steps.framed.same.geometry) in
     append_then c.args.id c.args.known c.args.size c.args.bytes.now f end tail (paged_not c.args.id c.args.size c.args.bytes.now f end c.index_needed.result needed c.in_err-take_pages.ensures is)
 
-pub returns-in-Ok : goal.returns-in-Ok
-returns-in-Ok g c = λ f end.
+pub returns : goal.returns
+returns g c = λ f end.
     let tail = c.in_ok-need_tail.ensures in
     let needed = c.index_needed.ensures ∙ ap (λ (k : Geometry). index_needed k c.args.size) (sym tail.steps.framed.same.geometry) in
-    append_then c.args.id c.args.known c.args.size c.args.bytes.now f end tail (paged_then c.args.id c.args.size c.args.bytes.now f end c.index_needed.result needed c.in_ok-take_pages.ensures (step_does (c.in-Ok.ensures.step f)))
+    append_then c.args.id c.args.known c.args.size c.args.bytes.now f end tail (paged_then c.args.id c.args.size c.args.bytes.now f end c.index_needed.result needed c.in_ok-take_pages.ensures (step_does (c.in_ok-append_step.ensures.step f)))
 
-pub returns-in-Err : goal.returns-in-Err
-returns-in-Err g c = λ f end.
+pub returns-in_err-append_step : goal.returns-in_err-append_step
+returns-in_err-append_step g c = λ f end.
     let tail = c.in_ok-need_tail.ensures in
     let needed = c.index_needed.ensures ∙ ap (λ (k : Geometry). index_needed k c.args.size) (sym tail.steps.framed.same.geometry) in
-    rw c.failed_as.ensures (append_then c.args.id c.args.known c.args.size c.args.bytes.now f end tail
-    (paged_then c.args.id c.args.size c.args.bytes.now f end c.index_needed.result needed c.in_ok-take_pages.ensures (step_fails (c.in-Err.ensures.step f))))
+    rw (err_is c.from_residual-in_err-append_step.result c.from_residual-in_err-append_step.ensures.1) (append_then c.args.id c.args.known c.args.size c.args.bytes.now f end tail
+    (paged_then c.args.id c.args.size c.args.bytes.now f end c.index_needed.result needed c.in_ok-take_pages.ensures (step_fails (c.in_err-append_step.ensures.step f))))

@@ -1,6 +1,6 @@
 use Rattle.std.proofs.Common.{◌≡◌, refl, rules, arith, Err}
 use Rattle.flash_view.proofs.Stepped.{looked}
-use Rattle.file_calls.proofs.CleansBy.{taken_after, taken_passes, taken_then}
+use Rattle.file_calls.proofs.CleansBy.{step_leaves, taken_after, taken_passes, taken_then}
 use Rattle.file_calls.proofs.TurnsBy.{turned_none, turned_once}
 use Rattle.file_calls.proofs.Going.{step_fails}
 use Rattle.file_calls.proofs.WriteParts.{step_does, tail_stays, tail_is_ready, tail_begins, tail_ends, tail_once, not_ready}
@@ -23,13 +23,13 @@ returns-in_err-take_pages-clause-steps g c =
 pub returns-in-Ok-clause-steps : goal.returns-in-Ok-clause-steps
 returns-in-Ok-clause-steps g c =
     turned_once (omega arith) (omega arith) (λ tells can. tail_once _ (c.in-Ok-false.ensures.told tells can.can.tidy can.there) (search rules))
-    (taken_then (λ k was image cut reserve. cut.reserve reserve) (taken_after c.in-Ok-false.ensures.looks c.in_ok-take_pages.ensures) (step_does c.in-Ok.ensures.steps)
+    (taken_then (λ k was image cut. step_leaves cut) (taken_after c.in-Ok-false.ensures.looks c.in_ok-take_pages.ensures) (step_does c.in-Ok.ensures.steps)
     (λ tells can. tail_begins _ _ _ can) (λ tells can made. tail_ends _ _ _ can _ made))
 
 pub returns-in-Err-ready_tail-clause-steps : goal.returns-in-Err-ready_tail-clause-steps
 returns-in-Err-ready_tail-clause-steps g c =
     rw c.failed_as.ensures (turned_once (omega arith) (omega arith) (λ tells can. tail_once _ (c.in-Ok-false.ensures.told tells can.can.tidy can.there) (search rules))
-    (taken_then (λ k was image cut reserve. cut.reserve reserve) (taken_after c.in-Ok-false.ensures.looks c.in_ok-take_pages.ensures) (step_fails c.in-Err-ready_tail.ensures.steps)
+    (taken_then (λ k was image cut. step_leaves cut) (taken_after c.in-Ok-false.ensures.looks c.in_ok-take_pages.ensures) (step_fails c.in-Err-ready_tail.ensures.steps)
     (λ tells can. tail_begins _ _ _ can) (λ tells can made. tail_ends _ _ _ can _ made)))
 
 pub returns-in_err-take_pages-clause-still : goal.returns-in_err-take_pages-clause-still
