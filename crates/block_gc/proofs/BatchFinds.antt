@@ -27,7 +27,7 @@ use Rattle.flash_view.proofs.Passed.{passed_page, live_here}
 use Rattle.page_renew.proofs.Homes.{serves_data, own_of}
 use Rattle.block_gc.specs.declared.batch.Batch.{Batch}
 use Rattle.block_gc.specs.declared.batch.Run.{Run}
-use Rattle.block_gc.specs.Batches.{Carried, move_of, moves_of, are_from, below, IsRun, IsFalling, IsTurnOf, IsSpanOf, IsOfBatch, IsCarried, Carries, HasCopies, IsCopyAt, FirstCopy, AreNamed}
+use Rattle.block_gc.specs.Batches.{Carried, move_of, moves_of, are_from, below, IsRun, IsFalling, IsTurnOf, IsSpanOf, IsOfBatch, IsCarried, Carries, HasCopies, IsCopyAt, IsCopyFrom, AreNamed}
 use Rattle.block_gc.proofs.BatchCalls.{live_was, of_still, names_on}
 use Rattle.block_gc.proofs.BatchRenews.{mapped}
 use Rattle.block_gc.proofs.BatchRuns.{below_all, below_none, below_with, below_without, one_from}
@@ -65,7 +65,7 @@ module _ (g : Geometry) (image : List ℕ) (id span block : ℕ) where
       both : head.span ≡ span → block_of g p ≢ block → ((head.span == span) && not (block_of g p == block)) ≡ true
       both spans apart = rw (eq-eqb head.span span spans, ne_eqb (block_of g p) block apart) refl
 
-  pub none_left : (from at : ℕ) → NextLive g image at id id None → NoneTo from at → FirstCopy g image id span block from None
+  pub none_left : (from at : ℕ) → NextLive g image at id id None → NoneTo from at → IsCopyFrom g image id span block from None
   none_left from at none so_far q low copy = ⊎_elim
       (λ (before : q < at). so_far q low before copy)
       (λ (behind : at ≤ q). passed_none q (none q behind (page_number g q (live_parts g image q copy.page copy.live).entry_page)) copy)
@@ -157,7 +157,7 @@ module _ (g : Geometry) (was image : List ℕ) (block most : ℕ) (batch : Batch
           sym was_of.is_span ∙ ap span_of same ∙ there.is_span
 
       -- its copy is found
-      pub copy_there : FirstCopy g image batch.id span block 0 None → ⊥
+      pub copy_there : IsCopyFrom g image batch.id span block 0 None → ⊥
       copy_there none =
           let x = carried.0 in
           let w = all_at (IsCarried g was image batch) cs x c.pages carried.1 in

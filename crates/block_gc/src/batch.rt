@@ -12,7 +12,7 @@ ghost use Rattle.flash_view.specs.Steps.{Stepped, failed, stopped};
 ghost use Rattle.page_renew.specs.Built.{IsLoaded};
 ghost use Rattle.block_gc.specs.Programs.{SixEach, NoneBefore};
 ghost use Rattle.block_gc.specs.Turns.{CanMoveBatch, moving_batch};
-ghost use Rattle.block_gc.specs.Batches.{Carried, below, HasCopies, IsTurnOf, FirstCopy, IsFoundFor, IsSpanOf, AreNamed, IsNamedCopy};
+ghost use Rattle.block_gc.specs.Batches.{Carried, below, HasCopies, IsTurnOf, IsCopyFrom, IsFoundFor, IsSpanOf, AreNamed, IsNamedCopy};
 ghost use Rattle.block_gc.specs.Batches.{carrying_to, carrying, carrying_turn, carrying_batch, renaming_to, renaming, dropping_turn, dropping_all};
 ghost use Rattle.block_gc.specs.Batches.{ending_batch};
 ghost use Rattle.block_gc.specs.Batches.{CanMoveFrom, moving_from};
@@ -248,7 +248,7 @@ fn copy_from<N: Nor>(
     requires id { id ≤ 0x7FFE }
     ensures cause { OnErr result (Rose (N.faults v.old.nor.now) (N.faults v.new.nor.now)) }
     ensures looks { OnlyLooks v.old v.new }
-    ensures told { N.tells v.old.nor.now → IfOk result (λ found. FirstCopy v.old.geometry (N.bytes v.old.nor.now) id span block from found) }
+    ensures told { N.tells v.old.nor.now → IfOk result (λ found. IsCopyFrom v.old.geometry (N.bytes v.old.nor.now) id span block from found) }
     ensures work { v.new.work.now ≡ v.old.work.now }
 {
     let mut at = from;
@@ -273,7 +273,7 @@ fn find_copy<N: Nor>(
     requires id { id ≤ 0x7FFE }
     ensures cause { OnErr result (Rose (N.faults v.old.nor.now) (N.faults v.new.nor.now)) }
     ensures looks { OnlyLooks v.old v.new }
-    ensures told { N.tells v.old.nor.now → IfOk result (λ found. FirstCopy v.old.geometry (N.bytes v.old.nor.now) id span block 0 found) }
+    ensures told { N.tells v.old.nor.now → IfOk result (λ found. IsCopyFrom v.old.geometry (N.bytes v.old.nor.now) id span block 0 found) }
     ensures work { v.new.work.now ≡ v.old.work.now }
 {
     if let Some(page) = copy_from(v, id, span, block, u32::from(near))? {

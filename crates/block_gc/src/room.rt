@@ -9,6 +9,7 @@ ghost use Rattle.room_laws.specs.Stopping.{CanClean, HasRoomFor};
 ghost use Rattle.room_laws.specs.Mends.{CanMend};
 ghost use Rattle.flash_view.specs.Steps.{Stepped, stopped};
 ghost use Rattle.block_gc.specs.RoomMade.{IsFaultOrTight, UnlessFailed, is_apart_in, IsReady, IsMet, IfMet, CollectCut, MadeRoom, IsTight, IsCompact, IsStuck};
+ghost use Rattle.block_gc.specs.declared.room.RoomErr.{RoomErr};
 ghost use Rattle.block_gc.specs.RoomMade.{cleaning_chosen, turning_to, collecting, packing};
 
 use crate::cleaning::clean;
@@ -23,6 +24,14 @@ pub enum RoomErr {
     Step(StepErr),
     /// No block that is worth cleaning can be cleaned, and there is too little room.
     Tight,
+}
+
+impl From<StepErr> for RoomErr {
+    ghost from_gives = { λ step why. why ≡ RoomErr.Step step };
+
+    fn from(step: StepErr) -> RoomErr {
+        RoomErr::Step(step)
+    }
 }
 
 // What blocks are cleaned for: so many index pages and data pages, or that no block is worth cleaning.
@@ -114,10 +123,10 @@ pub fn make_room<N: Nor>(v: &mut View<'_, N>, index: u32, data_pages: u32) -> Re
     ensures undamaged { N.tells v.old.nor.now → IsTidy v.old.geometry (N.bytes v.old.nor.now) → IfErr result (λ why. IsFaultOrTight why) }
     ensures differs { IfErr result is_apart_in }
 {
-    match collect(v, Goal::Pages(index, data_pages)) {
-        Err(why) => Err(RoomErr::Step(why)),
-        Ok(true) => Ok(()),
-        Ok(false) => Err(RoomErr::Tight),
+    if collect(v, Goal::Pages(index, data_pages))? {
+        Ok(())
+    } else {
+        Err(RoomErr::Tight)
     }
 }
 
@@ -149,9 +158,9 @@ pub fn compact<N: Nor>(v: &mut View<'_, N>) -> Result<(), RoomErr>
     ensures undamaged { N.tells v.old.nor.now → IsTidy v.old.geometry (N.bytes v.old.nor.now) → IfErr result (λ why. IsFaultOrTight why) }
     ensures differs { IfErr result is_apart_in }
 {
-    match pack(v) {
-        Err(why) => Err(RoomErr::Step(why)),
-        Ok(true) => Err(RoomErr::Tight),
-        Ok(false) => Ok(()),
+    if pack(v)? {
+        Err(RoomErr::Tight)
+    } else {
+        Ok(())
     }
 }

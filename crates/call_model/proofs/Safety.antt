@@ -6,7 +6,7 @@ use Rattle.image_model.specs.Sound.{IsSound}
 use Rattle.image_laws.proofs.Unshared.{tidy-unshared, sound-unshared}
 use Rattle.room_laws.specs.Recovery.{Recovers}
 use Rattle.room_laws.proofs.Staying.{reserve_mends}
-use Rattle.call_model.specs.Safe.{IsSafe, Holds}
+use Rattle.call_model.specs.Safe.{IsSafe, HoldsImage}
 
 -- what is sound with respect to an image that is sound with respect to another is so with respect to that
 sound_then : (g : Geometry) (a b c : List ℕ) → IsSound g b a → IsSound g c b → IsSound g c a
@@ -27,7 +27,7 @@ safe_of_tidy g was image tidy sound mends =
     }
 
 -- what a cut leaves of a tidy image that stands after another
-pub holds_safe : (g : Geometry) (a b c : List ℕ) → Holds g a b → IsTidy g b → IsSafe g b c → IsSafe g a c
+pub holds_safe : (g : Geometry) (a b c : List ℕ) → HoldsImage g a b → IsTidy g b → IsSafe g b c → IsSafe g a c
 holds_safe g a b c first tidy second = record {
   sound = λ magics. let one = first.sound magics in sound_then g a b c one (second.sound one.magics);
   mends = λ reserve. second.mends (first.reserve reserve);
@@ -35,21 +35,21 @@ holds_safe g a b c first tidy second = record {
 }
 
 -- and what stands after it
-pub holds_then : (g : Geometry) (a b c : List ℕ) → Holds g a b → Holds g b c → Holds g a c
+pub holds_then : (g : Geometry) (a b c : List ℕ) → HoldsImage g a b → HoldsImage g b c → HoldsImage g a c
 holds_then g a b c first second = record {
   sound = λ magics. let one = first.sound magics in sound_then g a b c one (second.sound one.magics);
   reserve = λ reserve. second.reserve (first.reserve reserve);
 }
 
 -- any image may stay
-pub holds_itself : (g : Geometry) (image : List ℕ) → Holds g image image
+pub holds_itself : (g : Geometry) (image : List ℕ) → HoldsImage g image image
 holds_itself g image = record {
   sound = λ magics. record { magics = magics; mixed = λ block h. h; damaged = λ id h. h };
   reserve = λ reserve. reserve;
 }
 
 -- what stands uncut and is tidy may be left by a cut
-pub safe_as : (g : Geometry) (a b : List ℕ) → Holds g a b → IsTidy g b → IsSafe g a b
+pub safe_as : (g : Geometry) (a b : List ℕ) → HoldsImage g a b → IsTidy g b → IsSafe g a b
 safe_as g a b h tidy =
     let none = tidy-unshared g b tidy in
     record {

@@ -9,7 +9,7 @@ use Rattle.table_model.specs.Steps.{steps}
 use Rattle.table_model.specs.Window.{Moment, after, from_settled, IsAmong}
 use Rattle.image_model.specs.Tables.{table_of}
 use Rattle.image_model.specs.Tidy.{has_spare}
-use Rattle.call_model.specs.Safe.{IsSafe, Holds}
+use Rattle.call_model.specs.Safe.{IsSafe, HoldsImage}
 use Rattle.call_model.specs.Memory.{Memory, IsAt}
 
 -- a volume stands at a moment: its device tells its bytes, and they and its memory are those of that moment
@@ -27,4 +27,4 @@ Publishes g memory m ask was image = IsAt g was memory m →
 pub record Answers {D : Type 0} (nor : NorOf D) (g : Geometry) (old new : D) (memory : Memory) (m : Moment) (ask : Ask) (reply : Answer) : Type 0 where
   pub reply_is : reply ≡ (answer g (has_spare g (nor.bytes old)) m.state ask).answer
   pub stands : Stands nor g new memory (after g (has_spare g (nor.bytes old)) m ask)
-  pub holds : Holds g (nor.bytes old) (nor.bytes new)
+  pub holds : HoldsImage g (nor.bytes old) (nor.bytes new)

@@ -19,6 +19,6 @@ pub record IsSafe (g : Geometry) (was image : List ℕ) : Type 0 where
   pub fits : (spare : ℕ) → FitsWith g was (spare + 1) → FitsWith g image spare
 
 -- the same of an image that stands uncut: a reserve that was there is there
-pub record Holds (g : Geometry) (was now : List ℕ) : Type 0 where
+pub record HoldsImage (g : Geometry) (was now : List ℕ) : Type 0 where
   pub sound : HasMagics g was → IsSound g now was
   pub reserve : HasReserve g was → HasReserve g now

@@ -30,7 +30,7 @@ use Rattle.file_calls.specs.Collecting.{RoomCut, packing}
 use Rattle.file_calls.specs.Cleans.{SweptFor, LeavesBlocks, CleansFor}
 use Rattle.file_calls.specs.States.{IsImageOf}
 use Rattle.file_calls.specs.Replies.{is_of_slots, may_answer}
-use Rattle.file_calls.specs.Goes.{CallCut, IsDoable, IsCorner, Goes}
+use Rattle.file_calls.specs.Goes.{CallCut, IsDoable, IsCornerOn, Goes}
 use Rattle.file_calls.proofs.CleansBy.{leaves_none}
 use Rattle.file_calls.proofs.Numbered.{numbered_fine}
 use Rattle.file_calls.proofs.Going.{IsFit, goes_by, is_first, no_gift, refuses_same, stop_slots, stop_apart, step_stops, step_among, fault_is}
@@ -79,7 +79,7 @@ flat_does : (g : Geometry) (image : List ℕ) (s : State) → IsDoable g image s
 flat_does g image s = record { done = ap (λ (o : Outcome). is_refusal o.answer) (flat_collects g (has_spare g image) s); publishes = inl refl }
 
 -- it takes no bytes of a file
-no_corner : (g : Geometry) (image : List ℕ) (s : State) → IsCorner g image s Collects → ⊥
+no_corner : (g : Geometry) (image : List ℕ) (s : State) → IsCornerOn g image s Collects → ⊥
 no_corner g image s corner = let no : false ≡ true = corner.cuts in cc
 
 gc_refused : (g : Geometry) (why : FsErr) (slots : List FdSlot) (wrote : Bool) → may_answer Collects (Refuses why) ≡ true → ((w : FsErr) → is_of_slots w ≡ true → Refuses why ≡ Refuses w → ⊥) → IsFit g Collects slots slots wrote (Refuses why)

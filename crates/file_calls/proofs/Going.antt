@@ -51,7 +51,7 @@ use Rattle.file_calls.specs.States.{IsImageOf}
 use Rattle.file_calls.specs.Collecting.{MayStop, refusing, RoomCut}
 use Rattle.file_calls.specs.Cleans.{index_taken, CleansFor, Taken, CleansInTurns, Turned, WritesNoTail}
 use Rattle.file_calls.proofs.Numbered.{name_of_slots, names_barred, numbered_fine, numbered_refused}
-use Rattle.file_calls.specs.Goes.{CallCut, Reaches, IsDoable, IsCorner, StopsShort, StaysAt, IsCollected, IsGiven, Goes}
+use Rattle.file_calls.specs.Goes.{CallCut, Reaches, IsDoable, IsCornerOn, StopsShort, StaysAt, IsCollected, IsGiven, Goes}
 use Rattle.file_calls.proofs.CleansBy.{cleans_as, cleans_reads, taken_as, taken_after}
 use Rattle.file_calls.proofs.TurnsBy.{index_few, some_among, few_once, few_more, turns_none, turns_once, turns_as, turned_after}
 
@@ -261,7 +261,7 @@ module _ {D : Type 0} {nor : NorOf D} {g : Geometry} {slots : List FdSlot} where
   -- what a call does, by its parts
   pub goes_by : {old new : D} {after : List FdSlot} (ask : Ask) (reply : Answer) (wrote : Bool) → IsFit g ask slots after wrote reply → Changes nor old new (λ was image. (s : State) → IsImageOf nor g old slots s → CallCut g s ask was image) →
       Changes nor old new (λ was image. (s : State) → IsImageOf nor g old slots s → Upkeep g was image) → ((s : State) → IsImageOf nor g old slots s → (reply ≡ Refuses DeviceFault → ⊥) → (StopsShort g (nor.bytes old) s ask reply → ⊥) → Reaches nor g old new after s ask reply) → ((s : State) → IsImageOf nor g old slots s → ask ≡ Collects → IsCollected g reply (nor.bytes old) (nor.bytes new)) →
-      ((s : State) → IsImageOf nor g old slots s → IsCorner g (nor.bytes old) s ask → reply ≡ Refuses Tight → StaysAt nor g new after s) → ((s : State) → IsImageOf nor g old slots s → wrote ≡ true → IsDoable g (nor.bytes old) s ask) → (wrote ≡ false → OnlyReads nor old new) → (reply ≡ Refuses DeviceFault → Rose (nor.faults old) (nor.faults new)) →
+      ((s : State) → IsImageOf nor g old slots s → IsCornerOn g (nor.bytes old) s ask → reply ≡ Refuses Tight → StaysAt nor g new after s) → ((s : State) → IsImageOf nor g old slots s → wrote ≡ true → IsDoable g (nor.bytes old) s ask) → (wrote ≡ false → OnlyReads nor old new) → (reply ≡ Refuses DeviceFault → Rose (nor.faults old) (nor.faults new)) →
       ((d : Differ) → reply ≡ Refuses (Damaged d) → (d.wanted ≢ d.found) × ((s : State) → IsImageOf nor g old slots s → ⊥)) → (is_change ask ≡ false → wrote ≡ false) →
       ((why : FsErr) → slots_fault g (descriptors slots) ask ≡ Some why → new ≡ old) →
       ((s : State) → IsImageOf nor g old slots s → is_write ask ≡ false → (ask ≡ Collects → ⊥) → CleansFor nor g (index_taken ask) 0 old new (reply ≡ Refuses DeviceFault)) → TurnsFor nor g old new slots ask reply → Goes nor g ask old new slots after wrote reply

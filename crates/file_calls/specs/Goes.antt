@@ -51,7 +51,7 @@ pub record IsDoable (g : Geometry) (image : List ℕ) (s : State) (ask : Ask) : 
 
 -- A file is to be cut on a volume with two free blocks, and the flat table does so, but the table has no room as it is: then there may be
 -- no index page for the new header page.
-pub record IsCorner (g : Geometry) (image : List ℕ) (s : State) (ask : Ask) : Type 0 where
+pub record IsCornerOn (g : Geometry) (image : List ℕ) (s : State) (ask : Ask) : Type 0 where
   pub cuts : cuts_file ask ≡ true
   pub reserve : HasReserve g image
   pub full : has_room g s.table ≡ false
@@ -60,7 +60,7 @@ pub record IsCorner (g : Geometry) (image : List ℕ) (s : State) (ask : Ask) : 
 -- Garbage collection was stopped for want of room, in a call for it or in such a cut, where the flat table does the call: the one answer
 -- that it doesn't tell.
 pub record StopsShort (g : Geometry) (image : List ℕ) (s : State) (ask : Ask) (reply : Answer) : Type 0 where
-  pub why : (ask ≡ Collects) ⊎ IsCorner g image s ask
+  pub why : (ask ≡ Collects) ⊎ IsCornerOn g image s ask
   pub doable : IsDoable g image s ask
   pub tight : reply ≡ Refuses Tight
 
@@ -93,7 +93,7 @@ pub record Does {D : Type 0} (nor : NorOf D) (g : Geometry) (ask : Ask) (old new
   pub upkeep : Changes nor old new (λ was image. (s : State) → IsImageOf nor g old slots s → Upkeep g was image)
   pub collects : (s : State) → IsImageOf nor g old slots s → ask ≡ Collects → IsCollected g reply (nor.bytes old) (nor.bytes new)
   -- Tight for want of a page for a cut, the call has changed nothing but where pages stand
-  pub cornered : (s : State) → IsImageOf nor g old slots s → IsCorner g (nor.bytes old) s ask → reply ≡ Refuses Tight → StaysAt nor g new after s
+  pub cornered : (s : State) → IsImageOf nor g old slots s → IsCornerOn g (nor.bytes old) s ask → reply ≡ Refuses Tight → StaysAt nor g new after s
   pub begun : (s : State) → IsImageOf nor g old slots s → wrote ≡ true → IsDoable g (nor.bytes old) s ask
   pub untouched : wrote ≡ false → OnlyReads nor old new
   -- refused, or where the device failed, and in a call that only looks at them, the descriptors stay

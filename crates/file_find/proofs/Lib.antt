@@ -8,4 +8,4 @@ pub mod Naming
 pub mod Noting
 pub mod Stepping
 pub mod Scanning
-pub mod Sound
+pub mod Undamaged

@@ -1,4 +1,4 @@
-// The tail of a file: bytes of its last data page past the size, and the entry behind its last.
+// The tail of a file: bytes of its last data page past the size, and the rest of a further index page behind its last entry.
 ghost use Rattle.std.specs.Prelude.{◌≡◌, ◌%◌, ◌<◌, ◌≤◌, ◌↔◌, ℕ, OnErr, IfOk, IfSome, Some, drop, true};
 ghost use Rattle.std.specs.Bool.{OnTrue, OnFalse};
 ghost use Rattle.geometry.specs.Numbers.{body, page_count};

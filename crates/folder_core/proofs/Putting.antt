@@ -3,7 +3,7 @@ use Rattle.std.proofs.Common.{◌≡◌, ℕ, ◌+◌, ◌≤◌, inl, inr, Bool
 use Rattle.std.proofs.lemmas.List.{get_or-map, map-set, map_push, length-map}
 use Rattle.nor_core.specs.declared.device.Failed.{Failed}
 use Rattle.folder_core.specs.declared.file.MemFile.{MemFile}
-use Rattle.folder_core.specs.Files.{Entry, File, entry_of, entries_of, name_at, size_at, bytes_at, IsFirst, NoneNamed, size_before, bytes_before}
+use Rattle.folder_core.specs.Files.{Entry, FolderFile, entry_of, entries_of, name_at, size_at, bytes_at, IsFirst, NoneNamed, size_before, bytes_before}
 use Rattle.folder_core.specs.Mem.{files_of, MemPuts}
 use Rattle.folder_core.specs.Puts.{Kept, Puts}
 use Rattle.folder_core.specs.declared.mem_folder.MemFolder.{MemFolder}
@@ -29,7 +29,7 @@ module _ (first : Bool) (name piece : List ℕ) (i : ℕ) (old new : List MemFil
           i,
           record {
             is_first = found;
-            new_is = ap (λ (l : List File). entries_of l) named ∙ map-set entry_of (files_of old) i (record { name = name; bytes = bytes_before first (bytes_at (files_of old) i) ++ piece }) ∙ ap (λ (n : ℕ). set (entries_of (files_of old)) i (record { name = name; size = n })) long;
+            new_is = ap (λ (l : List FolderFile). entries_of l) named ∙ map-set entry_of (files_of old) i (record { name = name; bytes = bytes_before first (bytes_at (files_of old) i) ++ piece }) ∙ ap (λ (n : ℕ). set (entries_of (files_of old)) i (record { name = name; size = n })) long;
           },
         );
         files = inl (i, record { is_first = found; new_is = named });
@@ -38,7 +38,7 @@ module _ (first : Bool) (name piece : List ℕ) (i : ℕ) (old new : List MemFil
 -- into a new file
 pub puts_last : (first : Bool) (name piece : List ℕ) (old new : List MemFile) → NoneNamed name (entries_of (files_of old)) → files_of new ≡ files_of old ++ record { name = name; bytes = piece } ∷ [] → MemPuts first name piece old new
 puts_last first name piece old new none done = record {
-  entries = inr (record { none = none; new_is = ap (λ (l : List File). entries_of l) done ∙ map_push entry_of (files_of old) (record { name = name; bytes = piece }) });
+  entries = inr (record { none = none; new_is = ap (λ (l : List FolderFile). entries_of l) done ∙ map_push entry_of (files_of old) (record { name = name; bytes = piece }) });
   files = inr (record { none = none; new_is = done });
 }
 

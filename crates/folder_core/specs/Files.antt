@@ -7,16 +7,16 @@ pub record Entry : Type 0 where
   pub size : ℕ
 
 -- a file
-pub record File : Type 0 where
+pub record FolderFile : Type 0 where
   pub name : List ℕ
   pub bytes : List ℕ
 
 -- the name and the size of this file
-abbrev pub entry_of : File → Entry
+abbrev pub entry_of : FolderFile → Entry
 entry_of file = record { name = file.name; size = length file.bytes }
 
 -- those of all these files
-abbrev pub entries_of : List File → List Entry
+abbrev pub entries_of : List FolderFile → List Entry
 entries_of files = map entry_of files
 
 -- the name of entry `i`, none past the end
@@ -28,7 +28,7 @@ abbrev pub size_at : List Entry → ℕ → ℕ
 size_at entries i = (slice_index_or entries i (record { name = []; size = 0 })).size
 
 -- the bytes of file `i`, none past the end
-abbrev pub bytes_at : List File → ℕ → List ℕ
+abbrev pub bytes_at : List FolderFile → ℕ → List ℕ
 bytes_at files i = (slice_index_or files i (record { name = []; bytes = [] })).bytes
 
 -- entry `i` is the first of that name

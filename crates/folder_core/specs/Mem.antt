@@ -3,15 +3,15 @@ use Rattle.std.specs.Prelude.{ℕ, ◌≡◌, ◌^◌, ◌<◌, ◌⊎◌, List,
 use Rattle.std.proofs.Common.{◌∙◌, sym, subst}
 use Rattle.std.proofs.lemmas.List.{length-map}
 use Rattle.folder_core.specs.declared.file.MemFile.{MemFile}
-use Rattle.folder_core.specs.Files.{File, entry_of, entries_of}
+use Rattle.folder_core.specs.Files.{FolderFile, entry_of, entries_of}
 use Rattle.folder_core.specs.Puts.{EntryAt, EntryLast, FileAt, FileLast}
 
 -- what a file in memory is
-abbrev pub file_of : MemFile → File
+abbrev pub file_of : MemFile → FolderFile
 file_of file = record { name = file.name.items; bytes = file.bytes.items }
 
 -- what all these are
-abbrev pub files_of : List MemFile → List File
+abbrev pub files_of : List MemFile → List FolderFile
 files_of files = map file_of files
 
 -- there are as many entries as files in memory

@@ -1,6 +1,6 @@
 -- What the calls of a folder leave. `FolderOf D` is the record of the ghost members, which a clause writes `F.FolderState`.
 use Rattle.std.specs.Prelude.{ℕ, ◌≡◌, ◌+◌, ◌≤◌, ◌⊎◌, List, [], ◌∷◌, ◌++◌, length, take, slice_set, Bool}
-use Rattle.folder_core.specs.Files.{Entry, File, entries_of, size_at, bytes_at, IsFirst, NoneNamed, size_before, bytes_before}
+use Rattle.folder_core.specs.Files.{Entry, FolderFile, entries_of, size_at, bytes_at, IsFirst, NoneNamed, size_before, bytes_before}
 pub use Rattle.folder_core.specs.declared.state.FolderState.{Ghosts as FolderOf}
 
 -- the folder is as it was
@@ -22,12 +22,12 @@ pub record EntryLast (name : List ℕ) (count : ℕ) (old new : List Entry) : Ty
   pub new_is : new ≡ old ++ record { name = name; size = count } ∷ []
 
 -- a piece was put into the first file of that name, at its place
-pub record FileAt (first : Bool) (name piece : List ℕ) (i : ℕ) (old new : List File) : Type 0 where
+pub record FileAt (first : Bool) (name piece : List ℕ) (i : ℕ) (old new : List FolderFile) : Type 0 where
   pub is_first : IsFirst name i (entries_of old)
   pub new_is : new ≡ slice_set old i (record { name = name; bytes = bytes_before first (bytes_at old i) ++ piece })
 
 -- or into a new one, which is the last
-pub record FileLast (name piece : List ℕ) (old new : List File) : Type 0 where
+pub record FileLast (name piece : List ℕ) (old new : List FolderFile) : Type 0 where
   pub none : NoneNamed name (entries_of old)
   pub new_is : new ≡ old ++ record { name = name; bytes = piece } ∷ []
 

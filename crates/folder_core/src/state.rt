@@ -1,6 +1,6 @@
 //! What a folder is, as contracts see it.
 ghost use Rattle.std.specs.Prelude.{ℕ, List};
-ghost use Rattle.folder_core.specs.Files.{Entry, File};
+ghost use Rattle.folder_core.specs.Files.{Entry, FolderFile};
 
 /// The meanings of a folder: contracts speak of it by these alone.
 pub trait FolderState {
@@ -11,7 +11,7 @@ pub trait FolderState {
     ghost entries: { Self → List Entry };
 
     /// Its files, where their bytes are told.
-    ghost files: { Self → List File };
+    ghost files: { Self → List FolderFile };
 
     /// A count of failures that never falls. At the last value of a u64 it stands still, and counts as risen.
     ghost faults: { Self → ℕ };

@@ -16,7 +16,7 @@ use Rattle.table_model.specs.Ask.{Opens, Writes, Closes}
 use Rattle.table_model.specs.Reply.{Fine, Tells}
 use Rattle.table_model.specs.Flat.{answer}
 use Rattle.call_model.proofs.Closed.{first_closed, first_open, opened_twice, closed_again}
-use Rattle.folder_core.specs.Files.{File as FolderFile}
+use Rattle.folder_core.specs.Files.{FolderFile}
 use Rattle.folder_plan.specs.Tables.{file_as, numbered, folder_table}
 use Rattle.folder_plan.specs.Putting.{writer, put_state, begun_state, IsNew}
 use Rattle.folder_plan.proofs.Tabling.{numbered_end, put_last, put_over, file_last}

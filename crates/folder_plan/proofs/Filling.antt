@@ -14,7 +14,7 @@ use Rattle.table_model.specs.Table.{same_text}
 use Rattle.table_model.specs.Names.{name_refusal}
 use Rattle.table_model.specs.Room.{index_pages, data_pages, has_room}
 use Rattle.image_laws.proofs.Serving.{ceil-mono}
-use Rattle.folder_core.specs.Files.{Entry, File as FolderFile, entry_of, entries_of, name_at, size_at}
+use Rattle.folder_core.specs.Files.{Entry, FolderFile, entry_of, entries_of, name_at, size_at}
 use Rattle.folder_plan.specs.Refusals.{is_refused, accepted, is_name_of, is_bad, first_bad, first_bad_from, index_sum, data_sum, leaves_two, fits, refusal_by, make_refusal}
 use Rattle.folder_plan.specs.Tables.{folder_table}
 use Rattle.folder_plan.specs.Putting.{IsNew}

@@ -6,7 +6,7 @@ use Rattle.std.proofs.lemmas.List.Sums.{sum_by-cons}
 use Rattle.geometry.specs.declared.geometry.Geometry.{Geometry}
 use Rattle.table_model.specs.Table.{File, same_text, file_of, file_named, put_file}
 use Rattle.table_model.specs.Room.{index_pages, data_pages, index_count, data_count, has_room}
-use Rattle.folder_core.specs.Files.{Entry, File as FolderFile, entries_of, name_at}
+use Rattle.folder_core.specs.Files.{Entry, FolderFile, entries_of, name_at}
 use Rattle.folder_plan.specs.Tables.{file_as, numbered, folder_table}
 use Rattle.folder_plan.specs.Refusals.{index_sum, data_sum, fits}
 

@@ -6,7 +6,7 @@ use Rattle.table_model.specs.Names.{name_refusal}
 use Rattle.table_model.specs.Room.{has_room}
 use Rattle.table_model.specs.Files.{with_open}
 use Rattle.call_model.specs.Closed.{with_files}
-use Rattle.folder_core.specs.Files.{File as FolderFile}
+use Rattle.folder_core.specs.Files.{FolderFile}
 use Rattle.folder_plan.specs.Tables.{folder_table}
 
 -- a descriptor at a place of a file that was opened to be made (4) and written (16)

@@ -2,7 +2,7 @@
 use Rattle.std.specs.Prelude.{ℕ, ◌+◌, List, [], ◌∷◌, replicate}
 use Rattle.geometry.specs.declared.geometry.Geometry.{Geometry}
 use Rattle.table_model.specs.Table.{File}
-use Rattle.folder_core.specs.Files.{File as FolderFile}
+use Rattle.folder_core.specs.Files.{FolderFile}
 
 -- a file of a folder as a file of a table, under an id: of type 1, with meta bytes of 0xFF
 abbrev pub file_as : Geometry → ℕ → FolderFile → File

@@ -68,7 +68,7 @@ fn bytes_of<C: Chip>(alloc: Global, chip: &mut C) -> Result<Vec<u8>, CopyErr>
 }
 
 /// A copy of what a chip holds, in erase units of `unit` bytes. The chip is only read, and what is written to the copy stays there. `Units` is
-/// answered exactly for numbers that can't be divided, before anything is read, and `Chip` only where a fault of the chip was counted. `Memory`
+/// answered exactly for numbers that can't be divided, and `Chip` only where a fault of the chip was counted. `Memory`
 /// is the allocator's answer, of which contracts say nothing.
 pub fn copy_of<C: Chip>(alloc: Global, chip: &mut C, unit: u32) -> Result<MemChip, CopyErr>
     ensures units { (result ≡ Err CopyErr.Units) ↔ (uneven (C.size chip.old) unit ≡ true) }

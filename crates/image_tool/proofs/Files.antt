@@ -13,7 +13,7 @@ use Rattle.table_model.specs.Table.{File, file_above}
 use Rattle.table_model.specs.Files.{bytes_at}
 use Rattle.table_model.specs.declared.reply.Stat.{Stat}
 use Rattle.image_model.specs.Tables.{table_of, damaged_of}
-use Rattle.folder_core.specs.Files.{File as FolderFile}
+use Rattle.folder_core.specs.Files.{FolderFile}
 use Rattle.folder_core.specs.declared.state.FolderState.{Ghosts as FolderOf}
 use Rattle.folder_core.specs.Puts.{Puts}
 use Rattle.file_read.specs.Whole.{IsRead}

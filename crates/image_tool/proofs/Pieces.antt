@@ -3,7 +3,7 @@ use Rattle.std.proofs.Common.{◌≡◌, ℕ, ◌+◌, ◌<◌, ◌==◌, ◌≤
 use Rattle.std.proofs.Math.Seq.{take-add, take-append_seam}
 use Rattle.std.proofs.lemmas.Bool.{ne_eqb, cases_lt}
 use Rattle.std.proofs.lemmas.List.{get_or-map, length-map, map-append, take-take, take-append-drop, take_all, length-take}
-use Rattle.folder_core.specs.Files.{Entry, File, entry_of, entries_of, IsFirst, NoneNamed}
+use Rattle.folder_core.specs.Files.{Entry, FolderFile, entry_of, entries_of, IsFirst, NoneNamed}
 use Rattle.folder_core.specs.declared.state.FolderState.{Ghosts as FolderOf}
 use Rattle.folder_core.specs.Puts.{Kept, Puts, HalfPuts}
 use Rattle.image_tool.specs.Pieces.{PutsOne, PutsSome}
@@ -13,13 +13,13 @@ use Rattle.image_tool.proofs.Placing.{FirstAt, NoneAt, set_put, push_put, put_tw
 abbrev no_entry : Entry
 no_entry = record { name = []; size = 0 }
 
-abbrev no_file : File
+abbrev no_file : FolderFile
 no_file = record { name = []; bytes = [] }
 
 abbrev entry_name : Entry → List ℕ
 entry_name e = e.name
 
-abbrev file_name : File → List ℕ
+abbrev file_name : FolderFile → List ℕ
 file_name f = f.name
 
 -- ---- the first of a name, and its entry
@@ -27,10 +27,10 @@ file_name f = f.name
 entry_at : {name : List ℕ} {i : ℕ} {entries : List Entry} → IsFirst name i entries → FirstAt entry_name no_entry name i entries
 entry_at f = record { inside = f.inside; here = f.here; before = f.before }
 
-entry_is : (files : List File) (k : ℕ) → k < length files → get_or (entries_of files) k no_entry ≡ entry_of (get_or files k no_file)
+entry_is : (files : List FolderFile) (k : ℕ) → k < length files → get_or (entries_of files) k no_entry ≡ entry_of (get_or files k no_file)
 entry_is files k inside = get_or-map entry_of files k no_file no_entry inside
 
-file_at : {name : List ℕ} {i : ℕ} (files : List File) → IsFirst name i (entries_of files) → FirstAt file_name no_file name i files
+file_at : {name : List ℕ} {i : ℕ} (files : List FolderFile) → IsFirst name i (entries_of files) → FirstAt file_name no_file name i files
 file_at {name} {i} files f =
     let inside : i < length files = omega (arith, f.inside, length-map files entry_of) in
     record {
@@ -39,7 +39,7 @@ file_at {name} {i} files f =
       before = λ k below same. f.before k below (ap entry_name (entry_is files k (omega (arith, below, inside))) ∙ same);
     }
 
-no_file_at : {name : List ℕ} (files : List File) → NoneNamed name (entries_of files) → NoneAt file_name no_file name files
+no_file_at : {name : List ℕ} (files : List FolderFile) → NoneNamed name (entries_of files) → NoneAt file_name no_file name files
 no_file_at files none = λ k inside same. none k (omega (arith, inside, length-map files entry_of)) (ap entry_name (entry_is files k inside) ∙ same)
 
 -- ---- bytes up to a place
@@ -65,12 +65,12 @@ more_entry name size count i was now new now_is f new_is =
     ∙ ap (λ (l : List Entry). put_named entry_name (record { name = name; size = size + count }) l) now_is
     ∙ put_twice entry_name no_entry (record { name = name; size = size + count }) (record { name = name; size = size }) was refl
 
-more_file : (name bytes piece : List ℕ) (i : ℕ) (was now new : List File) → now ≡ put_named file_name (record { name = name; bytes = bytes }) was → FirstAt file_name no_file name i now →
+more_file : (name bytes piece : List ℕ) (i : ℕ) (was now new : List FolderFile) → now ≡ put_named file_name (record { name = name; bytes = bytes }) was → FirstAt file_name no_file name i now →
     new ≡ set now i (record { name = name; bytes = (get_or now i no_file).bytes ++ piece }) → new ≡ put_named file_name (record { name = name; bytes = bytes ++ piece }) was
 more_file name bytes piece i was now new now_is f new_is =
-    let e : get_or now i no_file ≡ record { name = name; bytes = bytes } = ap (λ (l : List File). get_or l i no_file) now_is ∙ first_put file_name no_file (record { name = name; bytes = bytes }) i was (subst (λ (l : List File). FirstAt file_name no_file name i l) now_is f) in
-    new_is ∙ ap (λ (x : File). set now i (record { name = name; bytes = x.bytes ++ piece })) e ∙ set_put file_name no_file (record { name = name; bytes = bytes ++ piece }) i now f
-    ∙ ap (λ (l : List File). put_named file_name (record { name = name; bytes = bytes ++ piece }) l) now_is
+    let e : get_or now i no_file ≡ record { name = name; bytes = bytes } = ap (λ (l : List FolderFile). get_or l i no_file) now_is ∙ first_put file_name no_file (record { name = name; bytes = bytes }) i was (subst (λ (l : List FolderFile). FirstAt file_name no_file name i l) now_is f) in
+    new_is ∙ ap (λ (x : FolderFile). set now i (record { name = name; bytes = x.bytes ++ piece })) e ∙ set_put file_name no_file (record { name = name; bytes = bytes ++ piece }) i now f
+    ∙ ap (λ (l : List FolderFile). put_named file_name (record { name = name; bytes = bytes ++ piece }) l) now_is
     ∙ put_twice file_name no_file (record { name = name; bytes = bytes ++ piece }) (record { name = name; bytes = bytes }) was refl
 
 -- ---- the bytes of one file
@@ -125,7 +125,7 @@ module _ {D : Type 0} {folder : FolderOf D} where
         puts.entries;
     files = λ tells. ⊎_elim
         (λ at. more_file name bytes piece at.0 (folder.files old) (folder.files mid) (folder.files new) (one.files tells) (file_at (folder.files mid) at.1.is_first) at.1.new_is)
-        (λ last. absurd (put_there file_name no_file (record { name = name; bytes = bytes }) (folder.files old) (subst (λ (l : List File). NoneAt file_name no_file name l) (one.files tells) (no_file_at (folder.files mid) last.none))))
+        (λ last. absurd (put_there file_name no_file (record { name = name; bytes = bytes }) (folder.files old) (subst (λ (l : List FolderFile). NoneAt file_name no_file name l) (one.files tells) (no_file_at (folder.files mid) last.none))))
         (puts.files (told tells));
   }
 
@@ -133,7 +133,7 @@ module _ {D : Type 0} {folder : FolderOf D} where
   one_kept : {name bytes : List ℕ} {old mid new : D} → Kept folder old mid → PutsOne folder name bytes mid new → PutsOne folder name bytes old new
   one_kept {name} {bytes} kept one = record {
     entries = one.entries ∙ ap (λ (l : List Entry). put_named entry_name (record { name = name; size = length bytes }) l) kept.entries;
-    files = λ tells. one.files (kept.told tells) ∙ ap (λ (l : List File). put_named file_name (record { name = name; bytes = bytes }) l) kept.files;
+    files = λ tells. one.files (kept.told tells) ∙ ap (λ (l : List FolderFile). put_named file_name (record { name = name; bytes = bytes }) l) kept.files;
   }
 
   -- a folder that is as it was afterwards
@@ -175,41 +175,41 @@ module _ {D : Type 0} {folder : FolderOf D} where
   unfolding put_all
   files_none kept = record { entries = kept.entries; files = λ tells. kept.files }
 
-  pub files_one : (f : File) {old new : D} → PutsOne folder f.name f.bytes old new → PutsFiles folder (f ∷ []) old new
+  pub files_one : (f : FolderFile) {old new : D} → PutsOne folder f.name f.bytes old new → PutsFiles folder (f ∷ []) old new
   unfolding put_all
   files_one f one = record { entries = one.entries; files = one.files }
 
-  pub files_then : (front more : List File) {old mid new : D} → FolderGoes folder old mid → PutsFiles folder front old mid → PutsFiles folder more mid new → PutsFiles folder (front ++ more) old new
+  pub files_then : (front more : List FolderFile) {old mid new : D} → FolderGoes folder old mid → PutsFiles folder front old mid → PutsFiles folder more mid new → PutsFiles folder (front ++ more) old new
   files_then front more {old} {mid} {new} goes first second = record {
     entries = second.entries ∙ ap (λ (l : List Entry). put_entries more l) first.entries ∙ sym (put_more entry_name no_entry (entries_of front) (entries_of more) (folder.entries old)) ∙ ap (λ (l : List Entry). put_all entry_name l (folder.entries old)) (sym (map-append entry_of front more));
-    files = λ tells. second.files (goes.told tells) ∙ ap (λ (l : List File). put_files more l) (first.files tells) ∙ sym (put_more file_name no_file front more (folder.files old));
+    files = λ tells. second.files (goes.told tells) ∙ ap (λ (l : List FolderFile). put_files more l) (first.files tells) ∙ sym (put_more file_name no_file front more (folder.files old));
   }
 
-  pub partly_none : (those : List File) {old new : D} → Kept folder old new → PartlyPuts folder those old new
+  pub partly_none : (those : List FolderFile) {old new : D} → Kept folder old new → PartlyPuts folder those old new
   partly_none those kept = record { front = []; rest = those; those_are = refl; puts = inl (files_none kept) }
 
-  pub partly_all : (those : List File) {old new : D} → PutsFiles folder those old new → PartlyPuts folder those old new
+  pub partly_all : (those : List FolderFile) {old new : D} → PutsFiles folder those old new → PartlyPuts folder those old new
   partly_all those puts = record { front = those; rest = []; those_are = sym (append-nil those); puts = inl puts }
 
-  pub partly_one : (f : File) {old new : D} → PutsSome folder f.name f.bytes old new → PartlyPuts folder (f ∷ []) old new
+  pub partly_one : (f : FolderFile) {old new : D} → PutsSome folder f.name f.bytes old new → PartlyPuts folder (f ∷ []) old new
   partly_one f some = ⊎_elim
       (λ kept. partly_none (f ∷ []) kept)
       (λ put. record { front = []; rest = f ∷ []; those_are = refl; puts = inr (record { next = f; others = []; rest_is = refl; place = put.0; puts = files_one (record { name = f.name; bytes = take put.0 f.bytes }) put.1 }) })
       some
 
-  pub partly_more : (front more tail those : List File) {old mid new : D} → those ≡ front ++ (more ++ tail) → FolderGoes folder old mid → PutsFiles folder front old mid → PartlyPuts folder more mid new → PartlyPuts folder those old new
+  pub partly_more : (front more tail those : List FolderFile) {old mid new : D} → those ≡ front ++ (more ++ tail) → FolderGoes folder old mid → PutsFiles folder front old mid → PartlyPuts folder more mid new → PartlyPuts folder those old new
   partly_more front more tail those {old} {mid} {new} those_are goes first p = record {
     front = front ++ p.front;
     rest = p.rest ++ tail;
-    those_are = those_are ∙ ap (λ (l : List File). front ++ (l ++ tail)) p.those_are ∙ ap (λ (l : List File). front ++ l) (append_assoc p.front p.rest tail) ∙ sym (append_assoc front p.front (p.rest ++ tail));
+    those_are = those_are ∙ ap (λ (l : List FolderFile). front ++ (l ++ tail)) p.those_are ∙ ap (λ (l : List FolderFile). front ++ l) (append_assoc p.front p.rest tail) ∙ sym (append_assoc front p.front (p.rest ++ tail));
     puts = ⊎_elim
         (λ whole. inl (files_then front p.front goes first whole))
         (λ part. inr (record {
           next = part.next;
           others = part.others ++ tail;
-          rest_is = ap (λ (l : List File). l ++ tail) part.rest_is;
+          rest_is = ap (λ (l : List FolderFile). l ++ tail) part.rest_is;
           place = part.place;
-          puts = subst (λ (l : List File). PutsFiles folder l old new) (sym (append_assoc front p.front (record { name = part.next.name; bytes = take part.place part.next.bytes } ∷ []))) (files_then front (p.front ++ record { name = part.next.name; bytes = take part.place part.next.bytes } ∷ []) goes first part.puts);
+          puts = subst (λ (l : List FolderFile). PutsFiles folder l old new) (sym (append_assoc front p.front (record { name = part.next.name; bytes = take part.place part.next.bytes } ∷ []))) (files_then front (p.front ++ record { name = part.next.name; bytes = take part.place part.next.bytes } ∷ []) goes first part.puts);
         }))
         p.puts;
   }

@@ -12,7 +12,7 @@ ghost use Rattle.ix_map.specs.Covers.{given, covers, pages_met, Covered, ReadsTo
 use crate::map::IxMap;
 use file_read::no_data;
 use flash_view::{StepErr, View};
-use nor_core::{Failed, Nor, NorState};
+use nor_core::{Nor, NorState};
 use page_layout::BODY_AT;
 
 // Reads on to the end of a data page, or of what is asked: one page of the device. The answer is how many bytes there are now.
@@ -45,14 +45,10 @@ fn read_piece<N: Nor>(
     if u32::from(page) >= v.geometry.pages() {
         return Err(StepErr::Damaged(no_data(map.id, place / body)));
     }
-    match v.hold(page) {
-        Err(Failed) => Err(StepErr::DeviceFault),
-        Ok(()) => {
-            let start = (BODY_AT + from) as usize;
-            into[done..done + len].copy_from_slice(&v.held(page)[start..start + len]);
-            Ok(done + len)
-        }
-    }
+    v.hold(page)?;
+    let start = (BODY_AT + from) as usize;
+    into[done..done + len].copy_from_slice(&v.held(page)[start..start + len]);
+    Ok(done + len)
 }
 
 // Reads bytes that lie inside the file, each data page once.

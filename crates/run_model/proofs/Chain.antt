@@ -7,7 +7,7 @@ use Rattle.nor_core.proofs.Cuts.{andthen, widened, read_on, started}
 use Rattle.table_model.specs.Ask.{Ask}
 use Rattle.table_model.specs.Window.{Moment}
 use Rattle.image_model.specs.Tidy.{IsTidy, HasReserve}
-use Rattle.call_model.specs.Safe.{Holds}
+use Rattle.call_model.specs.Safe.{HoldsImage}
 use Rattle.call_model.specs.Memory.{Memory, IsAt}
 use Rattle.call_model.specs.Calls.{Stands}
 use Rattle.call_model.proofs.Safety.{holds_safe, holds_then, holds_itself}
@@ -35,7 +35,7 @@ module _ {D : Type 0} {nor : NorOf D} {g : Geometry} where
   wider_cut {old} {new} {m} {xs} ys leaves = widened leaves (λ image count c. record { part = c.part; count_is = c.count_is; safe = c.safe; cut = cut_wider g m xs ys c.part image c.cut })
 
   -- a cut in calls after those that were done
-  pub cut_behind : {old mid : D} {m : Moment} (xs : List RunCall) {ys : List RunCall} {image : List ℕ} {count : ℕ} → nor.said mid ≡ nor.said old ++ replies g m xs → Holds g (nor.bytes old) (nor.bytes mid) → IsTidy g (nor.bytes mid) → CutIn nor g mid (after_all g m xs) ys image count → CutIn nor g old m (xs ++ ys) image count
+  pub cut_behind : {old mid : D} {m : Moment} (xs : List RunCall) {ys : List RunCall} {image : List ℕ} {count : ℕ} → nor.said mid ≡ nor.said old ++ replies g m xs → HoldsImage g (nor.bytes old) (nor.bytes mid) → IsTidy g (nor.bytes mid) → CutIn nor g mid (after_all g m xs) ys image count → CutIn nor g old m (xs ++ ys) image count
   cut_behind {old} {mid} {m} xs {ys} {image} {count} said holds tidy c = record {
     part = replies g m xs ++ c.part;
     count_is = omega (arith, c.count_is, ap length said, length-append (nor.said old) (replies g m xs), length-append (replies g m xs) c.part);
@@ -44,7 +44,7 @@ module _ {D : Type 0} {nor : NorOf D} {g : Geometry} where
   }
 
   -- a cut in calls, or in those that come after
-  later_cut : {old mid new : D} {m : Moment} (xs : List RunCall) {ys : List RunCall} → nor.said mid ≡ nor.said old ++ replies g m xs → Holds g (nor.bytes old) (nor.bytes mid) → IsTidy g (nor.bytes mid) → Leaves nor old mid (CutIn nor g old m xs) → Leaves nor mid new (CutIn nor g mid (after_all g m xs) ys) → Leaves nor old new (CutIn nor g old m (xs ++ ys))
+  later_cut : {old mid new : D} {m : Moment} (xs : List RunCall) {ys : List RunCall} → nor.said mid ≡ nor.said old ++ replies g m xs → HoldsImage g (nor.bytes old) (nor.bytes mid) → IsTidy g (nor.bytes mid) → Leaves nor old mid (CutIn nor g old m xs) → Leaves nor mid new (CutIn nor g mid (after_all g m xs) ys) → Leaves nor old new (CutIn nor g old m (xs ++ ys))
   later_cut {old} {mid} {new} {m} xs {ys} said holds tidy first second = andthen (wider_cut ys first) (widened second (λ image count c. cut_behind xs said holds tidy c))
 
   -- a front of the replies to calls is one of the replies to more calls
@@ -101,7 +101,7 @@ module _ {D : Type 0} {nor : NorOf D} {g : Geometry} where
     fair = none_fair g m;
     said = reads.said ∙ sym (ap (λ (l : List ℕ). nor.said old ++ l) (no_replies g m) ∙ append-nil (nor.said old));
     stands = subst (λ (j : Moment). RunStands nor g new memory j) (sym (no_calls g m)) (run_stands_on reads.bytes reads.told stands);
-    holds = subst (λ (l : List ℕ). Holds g l (nor.bytes new)) reads.bytes (holds_itself g (nor.bytes new));
+    holds = subst (λ (l : List ℕ). HoldsImage g l (nor.bytes new)) reads.bytes (holds_itself g (nor.bytes new));
     cuts = read_on _ reads;
   }
 

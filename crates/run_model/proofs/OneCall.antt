@@ -17,7 +17,7 @@ use Rattle.table_model.specs.Window.{Moment, after, settled_at, leaves_window, c
 use Rattle.call_script.specs.Replies.{text}
 use Rattle.image_model.specs.Tables.{table_of}
 use Rattle.image_model.specs.Tidy.{HasReserve, has_spare}
-use Rattle.call_model.specs.Safe.{IsSafe, Holds}
+use Rattle.call_model.specs.Safe.{IsSafe, HoldsImage}
 use Rattle.call_model.specs.Memory.{Memory}
 use Rattle.call_model.specs.Calls.{Stands, Publishes, Answers}
 use Rattle.call_model.proofs.Room.{room_kept}
@@ -184,6 +184,6 @@ module _ {D : Type 0} {nor : NorOf D} {g : Geometry} where
     fair = one_fair g m (record { ask = ask; spare = ok.spare }) ok.fair;
     said = done ∙ ap (λ (l : List ℕ). l ++ text reply) changes.said ∙ ap (λ (l : List ℕ). nor.said old ++ l) (ap text ok.reply_is ∙ sym (one_reply g m (record { ask = ask; spare = ok.spare })));
     stands = subst (λ (j : Moment). RunStands nor g new after_it j) (sym (one_call g m (record { ask = ask; spare = ok.spare }))) (run_stands_on says.bytes leaves.told ok.stands);
-    holds = subst (λ (l : List ℕ). Holds g (nor.bytes old) l) (sym says.bytes) ok.holds;
+    holds = subst (λ (l : List ℕ). HoldsImage g (nor.bytes old) l) (sym says.bytes) ok.holds;
     cuts = reply_cuts changes stands ok leaves;
   }

@@ -10,7 +10,7 @@ use Rattle.table_model.specs.Steps.{steps}
 use Rattle.table_model.specs.Window.{Moment, after, from_settled, IsAmong}
 use Rattle.image_model.specs.Tables.{table_of}
 use Rattle.image_model.specs.Tidy.{HasReserve}
-use Rattle.call_model.specs.Safe.{IsSafe, Holds}
+use Rattle.call_model.specs.Safe.{IsSafe, HoldsImage}
 use Rattle.call_model.specs.Memory.{Memory, IsAt}
 use Rattle.call_model.specs.Calls.{Stands}
 use Rattle.run_model.specs.Runs.{RunCall, IsFair, AreFair, asks_of, after_all, replies, LacksPage, IsCut}
@@ -29,7 +29,7 @@ RunPublishes g memory m ask was image = IsAt g was memory m → HasReserve g was
 pub record RunAnswers {D : Type 0} (nor : NorOf D) (g : Geometry) (old new : D) (memory : Memory) (m : Moment) (ask : Ask) (reply : Answer) : Type 0 where
   pub reply_is : reply ≡ (answer g true m.state ask).answer
   pub stands : RunStands nor g new memory (after g true m ask)
-  pub holds : Holds g (nor.bytes old) (nor.bytes new)
+  pub holds : HoldsImage g (nor.bytes old) (nor.bytes new)
 
 -- A call of a run was told: answered as with two free blocks, or in the corner as with fewer, and then the image lacks a page. The volume stands
 -- at the moment after the call as it was answered.
@@ -40,7 +40,7 @@ pub record IsTold {D : Type 0} (nor : NorOf D) (g : Geometry) (old new : D) (mem
   pub reply_is : reply ≡ (answer g spare m.state ask).answer
   pub among : IsAmong (table_of g (nor.bytes new)) (from_settled m (steps g spare m.state ask))
   pub stands : RunStands nor g new memory (after g spare m ask)
-  pub holds : Holds g (nor.bytes old) (nor.bytes new)
+  pub holds : HoldsImage g (nor.bytes old) (nor.bytes new)
 
 -- a cut in some calls: an image that may follow, and so many bytes said that the replies and the table fit
 pub record CutIn {D : Type 0} (nor : NorOf D) (g : Geometry) (old : D) (m : Moment) (calls : List RunCall) (image : List ℕ) (count : ℕ) : Type 0 where
@@ -57,7 +57,7 @@ pub record Reached {D : Type 0} (nor : NorOf D) (g : Geometry) (old new : D) (me
   pub fair : AreFair g m calls
   pub said : nor.said new ≡ nor.said old ++ replies g m calls
   pub stands : RunStands nor g new memory (after_all g m calls)
-  pub holds : Holds g (nor.bytes old) (nor.bytes new)
+  pub holds : HoldsImage g (nor.bytes old) (nor.bytes new)
   pub cuts : Leaves nor old new (CutIn nor g old m calls)
 
 -- a front of the replies to some calls was said, and a cut leaves what one in these calls may

@@ -23,7 +23,7 @@ use Rattle.fd_table.specs.Slots.{descriptors, held}
 use Rattle.volume.specs.declared.volume.Volume.{Volume}
 use Rattle.volume.specs.Holds.{memory}
 use Rattle.call_model.specs.Calls.{Stands}
-use Rattle.call_model.specs.Safe.{Holds}
+use Rattle.call_model.specs.Safe.{HoldsImage}
 use Rattle.call_model.proofs.Safety.{holds_safe, holds_then, safe_as}
 use Rattle.run_model.specs.Runs.{RunCall, plain, asks_of, after_all, replies}
 use Rattle.run_model.specs.Ran.{RunStands, CutIn, SaidPart}
@@ -146,7 +146,7 @@ module _ {D : Type 0} {nor : NorOf D} {g : Geometry} where
       }))
 
   -- a cut while the bytes that wait are put onto the chip, after some calls and before others
-  settle_cut : {old mid new : D} {w now : Memory} {m : Moment} {ending result : Ending} (calls later : List RunCall) → nor.said mid ≡ nor.said old ++ replies g m calls → Holds g (nor.bytes old) (nor.bytes mid) → RunStands nor g mid w (after_all g m calls) → SettlesTo nor g mid new w now ending result → Leaves nor mid new (RunCut nor g old m (calls ++ later))
+  settle_cut : {old mid new : D} {w now : Memory} {m : Moment} {ending result : Ending} (calls later : List RunCall) → nor.said mid ≡ nor.said old ++ replies g m calls → HoldsImage g (nor.bytes old) (nor.bytes mid) → RunStands nor g mid w (after_all g m calls) → SettlesTo nor g mid new w now ending result → Leaves nor mid new (RunCut nor g old m (calls ++ later))
   settle_cut {old} {mid} {new} {w} {now} {m} calls later said holds stands settles = widened (settles.changes (after_all g m calls)).cuts (λ image count here.
       let safe = here.1 stands.stands.tells stands.stands.image in
       record {
@@ -182,7 +182,7 @@ module _ {D : Type 0} {nor : NorOf D} {g : Geometry} where
       let m = first_moment g slots (nor.bytes old) in
       let r = went.reached in
       let said : nor.said ran ≡ nor.said old ++ replies g m r.calls = said_behind ran (replies g m r.calls) changes r.said in
-      let holds : Holds g (nor.bytes old) (nor.bytes ran) = holds_then g (nor.bytes old) (nor.bytes mid) (nor.bytes ran) (holds_check (changes.now tells)) r.holds in
+      let holds : HoldsImage g (nor.bytes old) (nor.bytes ran) = holds_then g (nor.bytes old) (nor.bytes mid) (nor.bytes ran) (holds_check (changes.now tells)) r.holds in
       let last = settles.changes (after_all g m r.calls) in
       let asks_are : calls script ≡ asks_of r.calls ++ went.later = went.asks_are ∙ ap (λ (l : List Ask). l ++ went.later) r.asks_are in
       ⊎_elim

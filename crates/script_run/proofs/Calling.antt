@@ -26,7 +26,7 @@ use Rattle.image_model.specs.Collect.{are_had}
 use Rattle.call_model.specs.Memory.{Memory}
 use Rattle.call_model.specs.Calls.{Stands, Answers}
 use Rattle.call_model.proofs.After.{settled-among}
-use Rattle.run_model.specs.Runs.{IsCorner as IsRunCorner, LacksPage, has_index_room}
+use Rattle.run_model.specs.Runs.{IsCorner, LacksPage, has_index_room}
 use Rattle.run_model.specs.Ran.{RunStands, RunPublishes, IsTold}
 use Rattle.run_model.proofs.Runs.{among_settled}
 use Rattle.run_model.proofs.Corner.{tight_or_still, tight_after}
@@ -39,7 +39,7 @@ use Rattle.volume.specs.Stages.{takes_calls}
 use Rattle.file_calls.specs.declared.told.Told.{Told}
 use Rattle.file_calls.specs.Replies.{shown_by, HasRoomFor}
 use Rattle.volume.specs.Replies.{breaks}
-use Rattle.file_calls.specs.Goes.{IsCorner, StopsShort}
+use Rattle.file_calls.specs.Goes.{IsCornerOn, StopsShort}
 use Rattle.volume.specs.Calls.{Calls, StaysTight}
 use Rattle.tool_parts.specs.declared.ending.Ending.TheVariants.{BoardFault, Differ as EndsDiffer}
 use Rattle.script_run.specs.Runs.{Ran, StandsNow}
@@ -74,7 +74,7 @@ tight_cases (Refuses _) = inr (λ tight. cc)
 tight_cases _ = inr (λ tight. cc)
 
 -- a file is to be cut on a volume whose table has no room, or not so
-corner_cases : (g : Geometry) (image : List ℕ) (s : State) (ask : Ask) → HasReserve g image → IsCorner g image s ask ⊎ (IsCorner g image s ask → ⊥)
+corner_cases : (g : Geometry) (image : List ℕ) (s : State) (ask : Ask) → HasReserve g image → IsCornerOn g image s ask ⊎ (IsCornerOn g image s ask → ⊥)
 corner_cases g image s ask reserve = ⊎_elim
     (λ (cuts : cuts_file ask ≡ true). ⊎_elim
     (λ (room : has_room g s.table ≡ true). inr (λ corner. let no : false ≡ true = sym corner.full ∙ room in cc))
@@ -87,7 +87,7 @@ corner_cases g image s ask reserve = ⊎_elim
     (cases_Bool (cuts_file ask))
 
 -- in the corner of a volume the flat table does the call with two free blocks
-corner_done : (g : Geometry) (image : List ℕ) (s : State) (ask : Ask) → IsCorner g image s ask → is_refusal (answer g true s ask).answer ≡ false
+corner_done : (g : Geometry) (image : List ℕ) (s : State) (ask : Ask) → IsCornerOn g image s ask → is_refusal (answer g true s ask).answer ≡ false
 corner_done g image s ask corner = subst (λ (b : Bool). is_refusal (answer g b s ask).answer ≡ false) (spared g image corner.reserve) corner.done
 
 -- a call in it isn't for garbage collection, so it publishes its table
@@ -117,7 +117,7 @@ module _ {N : Type 0} {nor : NorOf N} where
   brief_of ask reply counted calls bytes is = let given = calls.brief bytes is in omega (arith, given.few, read_count ask given.fd given.count counted given.reads)
 
   -- garbage collection isn't stopped where two blocks are free, but in a corner
-  not_short : {old new : Volume N nor} {ask : Ask} {reply : Answer} (m : Moment) → takes_calls old ≡ true → Calls ask old new reply → Holds old m → HasReserve old.geometry (nor.bytes old.nor.now) → (IsCorner old.geometry (nor.bytes old.nor.now) m.state ask → ⊥) → StopsShort old.geometry (nor.bytes old.nor.now) m.state ask reply → ⊥
+  not_short : {old new : Volume N nor} {ask : Ask} {reply : Answer} (m : Moment) → takes_calls old ≡ true → Calls ask old new reply → Holds old m → HasReserve old.geometry (nor.bytes old.nor.now) → (IsCornerOn old.geometry (nor.bytes old.nor.now) m.state ask → ⊥) → StopsShort old.geometry (nor.bytes old.nor.now) m.state ask reply → ⊥
   not_short m takes calls holds reserve none short = ⊎_elim
       (λ collects. calls.unstuck m takes holds reserve collects short.tight)
       (λ corner. none corner)
@@ -152,7 +152,7 @@ module _ {N : Type 0} {nor : NorOf N} where
   }
 
   -- so its table has no room for one
-  tight_corner : {old new : Volume N nor} {ask : Ask} {reply : Answer} (m : Moment) → ((d : N) → nor.tells d → length (nor.bytes d) ≡ nor.size d) → Calls ask old new reply → IsCorner old.geometry (nor.bytes old.nor.now) m.state ask → StaysTight old new m → IsRunCorner old.geometry m.state ask
+  tight_corner : {old new : Volume N nor} {ask : Ask} {reply : Answer} (m : Moment) → ((d : N) → nor.tells d → length (nor.bytes d) ≡ nor.size d) → Calls ask old new reply → IsCornerOn old.geometry (nor.bytes old.nor.now) m.state ask → StaysTight old new m → IsCorner old.geometry m.state ask
   tight_corner {old} {new} {ask} m sized calls corner stays =
       let g = old.geometry in
       let image = nor.bytes new.nor.now in
@@ -165,12 +165,12 @@ module _ {N : Type 0} {nor : NorOf N} where
       }
 
   -- in the corner, Tight for want of a page
-  told_tight : {old new : Volume N nor} {ask : Ask} {reply : Answer} (m : Moment) → ((d : N) → nor.tells d → length (nor.bytes d) ≡ nor.size d) → takes_calls old ≡ true → Calls ask old new reply → RunStands nor old.geometry old.nor.now (memory old) m → IsCorner old.geometry (nor.bytes old.nor.now) m.state ask → reply ≡ Refuses Tight → answer old.geometry false m.state ask ≡ refused Tight m.state → IsTold nor old.geometry old.nor.now new.nor.now (memory new) m ask reply
+  told_tight : {old new : Volume N nor} {ask : Ask} {reply : Answer} (m : Moment) → ((d : N) → nor.tells d → length (nor.bytes d) ≡ nor.size d) → takes_calls old ≡ true → Calls ask old new reply → RunStands nor old.geometry old.nor.now (memory old) m → IsCornerOn old.geometry (nor.bytes old.nor.now) m.state ask → reply ≡ Refuses Tight → answer old.geometry false m.state ask ≡ refused Tight m.state → IsTold nor old.geometry old.nor.now new.nor.now (memory new) m ask reply
   told_tight {old} {new} {ask} {reply} m sized takes calls stands corner tight is =
       let g = old.geometry in
       let stays = calls.cornered m takes stands.stands corner tight in
       let here : Stands nor g new.nor.now (memory new) (settled_at m.state) = stands_by calls.same.geometry stays.stands in
-      let run : IsRunCorner g m.state ask = tight_corner m sized calls corner stays in
+      let run : IsCorner g m.state ask = tight_corner m sized calls corner stays in
       let now = (changes_of calls m).now stands.stands.tells stands.stands.image stands.reserve in
       record {
         spare = false;

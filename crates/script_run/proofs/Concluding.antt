@@ -10,7 +10,7 @@ use Rattle.image_model.specs.Tables.{table_of}
 use Rattle.image_model.specs.Tidy.{IsTidy, HasReserve}
 use Rattle.image_model.specs.Collect.{chosen_block}
 use Rattle.run_model.specs.Runs.{RunCall, after_all, replies, IsCut}
-use Rattle.call_model.specs.Safe.{IsSafe, Holds}
+use Rattle.call_model.specs.Safe.{IsSafe, HoldsImage}
 use Rattle.run_model.proofs.Runs.{cut_none, cut_later}
 use Rattle.run_model.proofs.Chain.{no_replies}
 use Rattle.tool_parts.specs.declared.ending.Ending.{Ending}
@@ -96,7 +96,7 @@ module _ {D : Type 0} {nor : NorOf D} {g : Geometry} where
         table = ap (table_of g) closes.says.bytes ∙ came.table;
         tidy = subst (λ (l : List ℕ). begin_refusal g (nor.bytes old) l ≡ None → IsTidy g l) (sym closes.says.bytes) came.tidy;
         stuck = λ n is. ap (chosen_block g) closes.says.bytes ∙ came.stuck n is;
-        holds = subst (λ (l : List ℕ). Holds g (nor.bytes old) l) (sym closes.says.bytes) came.holds;
+        holds = subst (λ (l : List ℕ). HoldsImage g (nor.bytes old) l) (sym closes.says.bytes) came.holds;
         cuts = andthen (widened came.cuts (λ image count here. inl (call_cut here))) (widened closes.cuts (λ image count here.
             let n = count - length (nor.said mid) in
             let within : n ≤ length (closing_line_of ending) = omega (arith, here.most) in

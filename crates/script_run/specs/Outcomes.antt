@@ -11,7 +11,7 @@ use Rattle.image_model.specs.Tidy.{IsTidy}
 use Rattle.image_model.specs.Collect.{chosen_block}
 use Rattle.run_model.specs.Runs.{RunCall, AreFair, asks_of, after_all, replies}
 use Rattle.call_model.specs.Memory.{Memory}
-use Rattle.call_model.specs.Safe.{IsSafe, Holds}
+use Rattle.call_model.specs.Safe.{IsSafe, HoldsImage}
 use Rattle.run_model.specs.Ran.{CutIn, Reached, SaidPart}
 use Rattle.tool_parts.specs.declared.ending.Ending.{Ending}
 use Rattle.tool_parts.specs.declared.ending.Ending.TheVariants.{Done, BadLine, BoardFault, SourceFault, TooLong, Tight}
@@ -119,7 +119,7 @@ pub record Came {D : Type 0} (nor : NorOf D) (g : Geometry) (old new : D) (m : M
   pub stuck : (n : ℕ) → ending ≡ Tight n → chosen_block g (nor.bytes new) ≡ None
   pub why : WhyRan g (nor.bytes old) (nor.bytes new) script left front later ending
   pub untouched : front ≡ [] → table_of g (nor.bytes new) ≡ table_of g (nor.bytes old)
-  pub holds : Holds g (nor.bytes old) (nor.bytes new)
+  pub holds : HoldsImage g (nor.bytes old) (nor.bytes new)
   pub safe : IsSafe g (nor.bytes old) (nor.bytes new)
   pub cuts : Leaves nor old new (RunCut nor g old m front)
 

@@ -12,7 +12,7 @@ use Rattle.image_model.specs.Tidy.{IsTidy, HasReserve}
 use Rattle.image_model.specs.Collect.{chosen_block}
 use Rattle.flash_view.specs.Same.{StaysBehind}
 use Rattle.run_model.specs.Runs.{RunCall, AreFair, asks_of, after_all, replies, IsCut}
-use Rattle.call_model.specs.Safe.{IsSafe, Holds}
+use Rattle.call_model.specs.Safe.{IsSafe, HoldsImage}
 use Rattle.run_model.specs.Ran.{SaidPart}
 use Rattle.tool_parts.specs.declared.buffers.Lengths.{Lengths}
 use Rattle.tool_parts.specs.declared.ending.Ending.{Ending}
@@ -71,7 +71,7 @@ pub record Closes {D : Type 0} (nor : NorOf D) (g : Geometry) (old new : D) (m :
   pub table : table_of g (nor.bytes new) ≡ (after_all g m front).state.table
   pub tidy : begin_refusal g (nor.bytes old) (nor.bytes new) ≡ None → IsTidy g (nor.bytes new)
   pub stuck : (n : ℕ) → ending ≡ Tight n → chosen_block g (nor.bytes new) ≡ None
-  pub holds : Holds g (nor.bytes old) (nor.bytes new)
+  pub holds : HoldsImage g (nor.bytes old) (nor.bytes new)
   pub cuts : Leaves nor old new
       (λ image count. CallCut nor g old m front image count ⊎ ClosingCut nor g old new (replies g m front) (closing_line_of ending) image count)
 

@@ -7,7 +7,7 @@ use Rattle.table_model.specs.declared.error.FsErr.{FsErr}
 use Rattle.table_model.specs.declared.error.FsErr.TheVariants.{Tight as TooTight, Damaged}
 use Rattle.table_model.specs.Window.{Moment, settled_at, from_settled, IsAmong}
 use Rattle.image_model.specs.Tables.{table_of}
-use Rattle.call_model.specs.Safe.{IsSafe, Holds}
+use Rattle.call_model.specs.Safe.{IsSafe, HoldsImage}
 use Rattle.call_model.specs.Memory.{Memory, IsAt}
 use Rattle.call_model.specs.Calls.{Stands}
 use Rattle.tool_parts.specs.declared.ending.Ending.{Ending}
@@ -23,7 +23,7 @@ settled_as ending (Err _) = BoardFault
 -- all that was written is on the chip: the volume stands where nothing waits any more
 pub record IsSettled {D : Type 0} (nor : NorOf D) (g : Geometry) (old new : D) (now : Memory) (m : Moment) : Type 0 where
   pub stands : Stands nor g new now (settled_at m.state)
-  pub holds : Holds g (nor.bytes old) (nor.bytes new)
+  pub holds : HoldsImage g (nor.bytes old) (nor.bytes new)
 
 -- What settling a volume leaves: at a cut a table that waited; and the run ends as it would, or the board failed. `was` and `now` are what
 -- the volume remembers before and after it.

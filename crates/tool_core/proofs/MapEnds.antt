@@ -11,7 +11,7 @@ use Rattle.image_model.specs.Tables.{table_of}
 use Rattle.image_model.specs.Tidy.{IsTidy, HasReserve}
 use Rattle.image_tool.specs.Saying.{OnlySays, SaysFront}
 use Rattle.image_tool.proofs.Speaking.{says_none}
-use Rattle.call_model.specs.Safe.{IsSafe, Holds as HoldsImage}
+use Rattle.call_model.specs.Safe.{IsSafe, HoldsImage}
 use Rattle.call_model.proofs.Safety.{holds_then, holds_itself}
 use Rattle.vol_check.specs.declared.report.Report.{Report}
 use Rattle.volume.specs.declared.volume.Volume.{Volume}

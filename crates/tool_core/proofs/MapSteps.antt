@@ -21,7 +21,7 @@ use Rattle.image_model.specs.Tidy.{IsTidy, HasReserve, has_spare}
 use Rattle.write_window.specs.Runs.{Run}
 use Rattle.call_model.specs.Calls.{Stands}
 use Rattle.call_model.specs.Memory.{Memory, IsAt, RunWaits}
-use Rattle.call_model.specs.Safe.{IsSafe, Holds as HoldsImage}
+use Rattle.call_model.specs.Safe.{IsSafe, HoldsImage}
 use Rattle.call_model.proofs.After.{other-settles}
 use Rattle.call_model.proofs.Safety.{holds_itself, holds_then, holds_safe, safe_as}
 use Rattle.volume.specs.declared.map_calls.MapErr.{MapErr}

@@ -6,7 +6,7 @@ use Rattle.nor_core.specs.Count.{Rose}
 use Rattle.nor_core.proofs.Cuts.{widened}
 use Rattle.flash_view.specs.Same.{StaysBehind}
 use Rattle.image_model.specs.Tables.{table_of}
-use Rattle.call_model.specs.Safe.{IsSafe, Holds}
+use Rattle.call_model.specs.Safe.{IsSafe, HoldsImage}
 use Rattle.tool_parts.specs.declared.ending.Ending.{Ending}
 use Rattle.tool_parts.specs.declared.ending.Ending.TheVariants.{Done, BoardFault}
 use Rattle.tool_parts.specs.Closing.{status_of, closing_line_of}
@@ -47,7 +47,7 @@ module _ {D : Type 0} {nor : NorOf D} {g : Geometry} {id : ℕ} where
         safe = λ tells. subst (λ (l : List ℕ). IsSafe g was l) (sym closes.says.bytes) (m.safe tells);
         holds = λ tells fine. ⊎_elim
             (λ broken. absurd (fine (⊎_elim (λ told. told ∙ ap status_of broken) (λ fault. fault.0) closes.ends)))
-            (λ holds. subst (λ (l : List ℕ). Holds g was l) (sym closes.says.bytes) holds)
+            (λ holds. subst (λ (l : List ℕ). HoldsImage g was l) (sym closes.says.bytes) holds)
             (m.holds tells);
         mends = λ tells may. mended_closed g result (m.mends tells may) closes;
         kept = λ tells why refused. none_closed (m.kept tells why refused) closes;

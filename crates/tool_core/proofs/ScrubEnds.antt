@@ -9,7 +9,7 @@ use Rattle.nor_core.proofs.Cuts.{andthen, widened, wider, go_on}
 use Rattle.image_model.specs.Tables.{table_of}
 use Rattle.image_model.specs.Tidy.{IsTidy, HasReserve, free_blocks}
 use Rattle.call_model.specs.Memory.{Memory}
-use Rattle.call_model.specs.Safe.{IsSafe, Holds}
+use Rattle.call_model.specs.Safe.{IsSafe, HoldsImage}
 use Rattle.call_model.proofs.Safety.{holds_safe, holds_then, safe_as}
 use Rattle.vol_check.specs.declared.report.Report.{Report}
 use Rattle.tool_parts.specs.declared.ending.Ending.{Ending}
@@ -184,7 +184,7 @@ module _ {D : Type 0} {nor : NorOf D} {g : Geometry} where
         done = λ tells is. record { checked = nor.bytes mid; check = leaves tells; scrubbed = subst (λ (l : List ℕ). Scrubbed g limit (nor.bytes mid) l s.moved) (sym s.says.bytes) (made tells).0 };
         table = λ tells. ap (table_of g) s.says.bytes ∙ (whole.now tells).1;
         safe = λ tells. subst (λ (l : List ℕ). IsSafe g was l) (sym s.says.bytes) (whole.now tells).0;
-        holds = λ tells. inr (subst (λ (l : List ℕ). Holds g was l) (sym s.says.bytes) (holds_then g was (nor.bytes mid) (nor.bytes s.mid) (holds_check (changes.now tells)) (made tells).0.made.holds));
+        holds = λ tells. inr (subst (λ (l : List ℕ). HoldsImage g was l) (sym s.says.bytes) (holds_then g was (nor.bytes mid) (nor.bytes s.mid) (holds_check (changes.now tells)) (made tells).0.made.holds));
         mends = λ tells may. ⊎_elim (λ fault. inl fault) (λ said. inr (reserve tells, λ tight. omega (arith, tight, ap status_of said.0))) s.ends;
         kept = λ tells why is. absurd (not_both (leaves tells).takes is);
       }

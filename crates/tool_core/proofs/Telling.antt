@@ -3,7 +3,7 @@ use Rattle.std.proofs.Common.{◌≡◌, ℕ, zero, suc, ◌+◌, ◌<◌, List,
 use Rattle.std.proofs.lemmas.Bool.{eq-eqb, ne_eqb}
 use Rattle.geometry.specs.declared.geometry.Geometry.{Geometry}
 use Rattle.table_model.specs.Table.{File, file_of}
-use Rattle.folder_core.specs.Files.{File as FolderFile, entries_of, size_at}
+use Rattle.folder_core.specs.Files.{FolderFile, entries_of, size_at}
 use Rattle.image_model.specs.Tables.{table_of}
 use Rattle.folder_plan.specs.Tables.{file_as, numbered, folder_table}
 use Rattle.meta_laws.specs.Other.{HasPlainFile}

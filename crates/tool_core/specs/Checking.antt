@@ -9,7 +9,7 @@ use Rattle.image_model.specs.Kinds.{spoiled_blocks}
 use Rattle.image_model.specs.Killed.{killed_of}
 use Rattle.image_model.specs.Collect.{chosen_block}
 use Rattle.flash_view.specs.Same.{StaysBehind}
-use Rattle.call_model.specs.Safe.{IsSafe, Holds}
+use Rattle.call_model.specs.Safe.{IsSafe, HoldsImage}
 use Rattle.tool_parts.specs.declared.ending.Ending.{Ending}
 use Rattle.tool_parts.specs.declared.ending.Ending.TheVariants.{BoardFault}
 use Rattle.tool_parts.specs.Closing.{closing_line_of}
@@ -78,7 +78,7 @@ pub record DoesCheck {D : Type 0} (nor : NorOf D) (g : Geometry) (cache : ℕ) (
   pub told : nor.tells old → Concludes nor old new (reported_text g (nor.bytes old) (nor.bytes new)) (check_ending g (nor.bytes old) (nor.bytes new)) status
   -- the last image has the table of the first one, which it may follow
   pub table : nor.tells old → table_of g (nor.bytes new) ≡ table_of g (nor.bytes old)
-  pub holds : nor.tells old → Holds g (nor.bytes old) (nor.bytes new)
+  pub holds : nor.tells old → HoldsImage g (nor.bytes old) (nor.bytes new)
   -- it is in order, once the report was said
   pub ordered : nor.tells old → IsOrderedOnceSaid nor g old new
   -- it has two free blocks where the check takes the first one and leaves it two, if the board didn't fail

@@ -5,7 +5,7 @@ use Rattle.nor_core.specs.declared.state.NorState.{Ghosts as NorOf}
 use Rattle.nor_core.specs.Count.{Rose}
 use Rattle.flash_view.specs.Same.{StaysBehind}
 use Rattle.folder_core.specs.declared.state.FolderState.{Ghosts as FolderOf}
-use Rattle.folder_core.specs.Files.{File as FolderFile, entries_of}
+use Rattle.folder_core.specs.Files.{FolderFile, entries_of}
 use Rattle.folder_core.specs.Puts.{Kept}
 use Rattle.folder_plan.specs.declared.refusing.Refusal.{Refusal}
 use Rattle.folder_plan.specs.declared.refusing.Refusal.TheVariants.{BadNames, Full as NoRoom}

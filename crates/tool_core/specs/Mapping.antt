@@ -16,7 +16,7 @@ use Rattle.flash_view.specs.DataPages.{data_number_of}
 use Rattle.flash_view.specs.Same.{StaysBehind}
 use Rattle.block_gc.specs.RoomMade.{IsCompact}
 use Rattle.file_calls.specs.Collecting.{IsStuckAt}
-use Rattle.call_model.specs.Safe.{IsSafe, Holds}
+use Rattle.call_model.specs.Safe.{IsSafe, HoldsImage}
 use Rattle.vol_check.specs.declared.report.Report.{Report}
 use Rattle.volume.specs.declared.map_calls.MapErr.{MapErr}
 use Rattle.volume.specs.declared.map_calls.MapErr.TheVariants.{Call}
@@ -96,7 +96,7 @@ module _ {N : Type 0} {nor : NorOf N} where
   pub record Rests (slots : ℕ) (old new : Volume N nor) : Type 0 where
     pub rest : IsAtRest slots new
     pub table : table_of old.geometry (nor.bytes new.nor.now) ≡ table_of old.geometry (nor.bytes old.nor.now)
-    pub holds : Holds old.geometry (nor.bytes old.nor.now) (nor.bytes new.nor.now)
+    pub holds : HoldsImage old.geometry (nor.bytes old.nor.now) (nor.bytes new.nor.now)
 
   -- A step on such a volume: a cut keeps the files, and it is done, or there is a reason.
   pub record Steps (slots : ℕ) (old new : Volume N nor) (result : Result (Unit {0}) Ending) (Is : Type 0) (Why : Ending → Type 0) : Type 0 where
@@ -194,7 +194,7 @@ pub record MapEnds {D : Type 0} (nor : NorOf D) (g : Geometry) (id : ℕ) (old n
       (file_ending id (file_of id (table_of g (nor.bytes old)))) result
   pub done : nor.tells old → result ≡ Done → StopsCollecting g (nor.bytes old) (nor.bytes mid)
   pub missing : nor.tells old → status_of result ≡ 17 → nor.bytes mid ≡ nor.bytes old
-  pub holds : nor.tells old → (result ≡ BoardFault) ⊎ Holds g (nor.bytes old) (nor.bytes mid)
+  pub holds : nor.tells old → (result ≡ BoardFault) ⊎ HoldsImage g (nor.bytes old) (nor.bytes mid)
 
 -- an image was checked, which left another
 pub record IsChecked (g : Geometry) (was now : List ℕ) : Type 0 where
@@ -217,7 +217,7 @@ pub record MapsTo {D : Type 0} (nor : NorOf D) (g : Geometry) (id : ℕ) (old ne
   pub missing : nor.tells old → status_of result ≡ 17 → IsChecked g (nor.bytes old) (nor.bytes new)
   pub table : nor.tells old → table_of g (nor.bytes new) ≡ table_of g (nor.bytes old)
   pub safe : nor.tells old → IsSafe g (nor.bytes old) (nor.bytes new)
-  pub holds : nor.tells old → (result ≡ BoardFault) ⊎ Holds g (nor.bytes old) (nor.bytes new)
+  pub holds : nor.tells old → (result ≡ BoardFault) ⊎ HoldsImage g (nor.bytes old) (nor.bytes new)
   pub mends : nor.tells old → IsMendable g (nor.bytes old) → (result ≡ BoardFault) ⊎ (HasReserve g (nor.bytes new) × (status_of result ≢ 14))
   pub kept : nor.tells old → (ending : Ending) → check_refusal g (nor.bytes old) ≡ Some ending → WritesNone nor old new
 
@@ -231,7 +231,7 @@ pub record DoesMap {D : Type 0} (nor : NorOf D) (g : Geometry) (cache id : ℕ) 
   -- the last image has the table of the first one; it may be left by a cut in it, and where the board didn't fail it follows it
   pub table : nor.tells old → table_of g (nor.bytes new) ≡ table_of g (nor.bytes old)
   pub safe : nor.tells old → IsSafe g (nor.bytes old) (nor.bytes new)
-  pub holds : nor.tells old → status ≢ 7 → Holds g (nor.bytes old) (nor.bytes new)
+  pub holds : nor.tells old → status ≢ 7 → HoldsImage g (nor.bytes old) (nor.bytes new)
   -- it has two free blocks where the check takes the first one and leaves it two, if the board didn't fail
   pub mends : nor.tells old → IsMendable g (nor.bytes old) → HasMended nor g new status
   -- an image that isn't taken stays, where the board fails too

@@ -10,7 +10,7 @@ use Rattle.image_model.specs.Tidy.{IsTidy, HasReserve, free_blocks}
 use Rattle.image_model.specs.Wear.{scrub_victim}
 use Rattle.flash_view.specs.Same.{StaysBehind}
 use Rattle.call_model.specs.Memory.{Memory}
-use Rattle.call_model.specs.Safe.{IsSafe, Holds}
+use Rattle.call_model.specs.Safe.{IsSafe, HoldsImage}
 use Rattle.wear_scrub.specs.declared.scrubs.Scrub.{Scrub}
 use Rattle.wear_scrub.specs.declared.scrubs.Scrub.TheVariants.{NoRoom, Rested, Moved}
 use Rattle.wear_scrub.specs.Scrubs.{ScrubDone}
@@ -59,7 +59,7 @@ EachMoved g limit (suc moved) was now = (mid : List ℕ) × EachMoved g limit mo
 pub record StepsMade (g : Geometry) (limit moved : ℕ) (was now : List ℕ) : Type 0 where
   pub tidy : IsTidy g now
   pub table : table_of g now ≡ table_of g was
-  pub holds : Holds g was now
+  pub holds : HoldsImage g was now
   pub each : EachMoved g limit moved was now
   pub worn : 1 ≤ next_count g was → next_count g was + g.blocks < 0x8000 → moved ≤ g.blocks → next_count g now ≡ next_count g was + moved
 
@@ -68,7 +68,7 @@ pub record StepsMade (g : Geometry) (limit moved : ℕ) (was now : List ℕ) : T
 pub record IsStepDone (g : Geometry) (limit : ℕ) (was now : List ℕ) (moved : Bool) : Type 0 where
   pub tidy : IsTidy g now
   pub table : table_of g now ≡ table_of g was
-  pub holds : Holds g was now
+  pub holds : HoldsImage g was now
   pub step : IsStep g limit was now moved
 
 -- So many steps were made of an image, and then no more: as many as there are blocks, or fewer than three are free, or none is a victim.
@@ -142,7 +142,7 @@ pub record ScrubsTo {D : Type 0} (nor : NorOf D) (g : Geometry) (limit : ℕ) (o
   pub done : nor.tells old → result ≡ Done → ScrubbedAfter g limit moved (nor.bytes old) (nor.bytes new)
   pub table : nor.tells old → table_of g (nor.bytes new) ≡ table_of g (nor.bytes old)
   pub safe : nor.tells old → IsSafe g (nor.bytes old) (nor.bytes new)
-  pub holds : nor.tells old → (result ≡ BoardFault) ⊎ Holds g (nor.bytes old) (nor.bytes new)
+  pub holds : nor.tells old → (result ≡ BoardFault) ⊎ HoldsImage g (nor.bytes old) (nor.bytes new)
   pub mends : nor.tells old → IsMendable g (nor.bytes old) → (result ≡ BoardFault) ⊎ (HasReserve g (nor.bytes new) × (status_of result ≢ 14))
   pub kept : nor.tells old → (ending : Ending) → check_refusal g (nor.bytes old) ≡ Some ending → WritesNone nor old new
 
@@ -157,7 +157,7 @@ pub record DoesScrub {D : Type 0} (nor : NorOf D) (g : Geometry) (cache limit : 
   -- the last image has the table of the first one; it may be left by a cut in it, and where the board didn't fail it follows it
   pub table : nor.tells old → table_of g (nor.bytes new) ≡ table_of g (nor.bytes old)
   pub safe : nor.tells old → IsSafe g (nor.bytes old) (nor.bytes new)
-  pub holds : nor.tells old → status ≢ 7 → Holds g (nor.bytes old) (nor.bytes new)
+  pub holds : nor.tells old → status ≢ 7 → HoldsImage g (nor.bytes old) (nor.bytes new)
   -- it has two free blocks where the check takes the first one and leaves it two, if the board didn't fail
   pub mends : nor.tells old → IsMendable g (nor.bytes old) → HasMended nor g new status
   -- an image that isn't taken stays, where the board fails too

@@ -1,7 +1,7 @@
 -- What `make` leaves tells its number of meta bytes.
 use Rattle.std.specs.Prelude.{ℕ, ◌<◌, List, slice_index}
 use Rattle.geometry.specs.declared.geometry.Geometry.{Geometry}
-use Rattle.folder_core.specs.Files.{Entry, File as FolderFile, entries_of, size_at}
+use Rattle.folder_core.specs.Files.{Entry, FolderFile, entries_of, size_at}
 use Rattle.image_model.specs.Places.{IsImage}
 use Rattle.folder_plan.specs.Tables.{folder_table}
 use Rattle.meta_laws.specs.Other.{TellsMeta}

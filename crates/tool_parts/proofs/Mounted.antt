@@ -9,7 +9,7 @@ use Rattle.image_model.specs.Shared.{shared_blocks, fits_over, FitsWith}
 use Rattle.image_model.specs.Tidy.{IsTidy, HasReserve}
 use Rattle.room_laws.specs.Recovery.{Recovers}
 use Rattle.image_laws.proofs.Unshared.{fits-less}
-use Rattle.call_model.specs.Safe.{ComesBack, IsSafe, Holds}
+use Rattle.call_model.specs.Safe.{ComesBack, IsSafe, HoldsImage}
 use Rattle.vol_mount.specs.declared.lent.MountErr.{MountErr}
 use Rattle.vol_mount.specs.declared.lent.MountErr.TheVariants.{NotAFs as MountNotAFs, DeviceFault as MountFault}
 use Rattle.vol_mount.specs.Mounts.{CountsSpoiled}
@@ -23,7 +23,7 @@ use Rattle.tool_parts.specs.Refusals.{check_refusal}
 use Rattle.tool_parts.proofs.Refusals.{check_two, check_over, check_takes, over_of, reserve_back}
 
 -- what the check leaves holds
-pub holds_check : {g : Geometry} {was image : List ℕ} → Checks g was image → Holds g was image
+pub holds_check : {g : Geometry} {was image : List ℕ} → Checks g was image → HoldsImage g was image
 holds_check here = record { sound = here.sound; reserve = here.reserve }
 
 -- and a cut in it leaves what is safe

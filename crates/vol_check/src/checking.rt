@@ -85,8 +85,5 @@ pub fn check_stages<N: Nor>(v: &mut View<'_, N>, marks: &mut [u8]) -> Result<Rep
     if let Err(why) = v.geometry.writable() {
         return Err(CheckErr::Wrong(why));
     }
-    match clean(v, marks) {
-        Ok(report) => Ok(report),
-        Err(Failed) => Err(CheckErr::DeviceFault),
-    }
+    Ok(clean(v, marks)?)
 }

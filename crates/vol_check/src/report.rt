@@ -1,4 +1,8 @@
+ghost use Rattle.std.specs.Prelude.{◌≡◌};
+ghost use Rattle.vol_check.specs.declared.report.CheckErr.{CheckErr};
+
 use geometry::GeoErr;
+use nor_core::Failed;
 use table_model::Differ;
 
 /// What a check found and did.
@@ -29,4 +33,12 @@ pub enum CheckErr {
     DeviceFault,
     /// A page that cleaning moves reads otherwise than it was written.
     Damaged(Differ),
+}
+
+impl From<Failed> for CheckErr {
+    ghost from_gives = { λ _ why. why ≡ CheckErr.DeviceFault };
+
+    fn from(_: Failed) -> CheckErr {
+        CheckErr::DeviceFault
+    }
 }

@@ -7,7 +7,7 @@ use Rattle.nor_core.proofs.Cuts.{go_on, wider, unchanged}
 use Rattle.table_model.specs.Table.{File, Open}
 use Rattle.image_model.specs.Tidy.{IsTidy}
 use Rattle.image_model.specs.Tables.{table_of}
-use Rattle.call_model.specs.Safe.{Holds}
+use Rattle.call_model.specs.Safe.{HoldsImage}
 use Rattle.call_model.proofs.Safety.{holds_safe, holds_itself, safe_as}
 use Rattle.header_laws.proofs.Telling.{each-by_id}
 use Rattle.header_laws.proofs.Naming.{each_by_name}
@@ -56,7 +56,7 @@ module _ {M : Type 0} {nor : NorOf M} where
       let b : B t mid = leads t has in
       let at = (rests t b).at in
       let after = later t b in
-      let holds : Holds t.g (nor.bytes old.nor.now) (nor.bytes mid.nor.now) = record { sound = (here t has).0.sound; reserve = λ two. at.stands.reserve } in
+      let holds : HoldsImage t.g (nor.bytes old.nor.now) (nor.bytes mid.nor.now) = record { sound = (here t has).0.sound; reserve = λ two. at.stands.reserve } in
       (holds_safe t.g (nor.bytes old.nor.now) (nor.bytes mid.nor.now) image holds (rest_tidy at) after.0, after.1))
 
   -- no call

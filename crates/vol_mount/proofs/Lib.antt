@@ -5,3 +5,4 @@ pub mod Empty
 mod Counting
 pub mod Listed
 pub mod Same
+mod Stopping

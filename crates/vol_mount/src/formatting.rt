@@ -89,8 +89,5 @@ pub fn format<N: Nor>(g: &Geometry, nor: &mut N) -> Result<(), FormatErr>
     if wrong_chip(g, nor) {
         return Err(FormatErr::Wrong(GeoErr::WrongChip));
     }
-    match format_blocks(g, nor) {
-        Ok(()) => Ok(()),
-        Err(Failed) => Err(FormatErr::DeviceFault),
-    }
+    Ok(format_blocks(g, nor)?)
 }

@@ -1,6 +1,10 @@
+ghost use Rattle.std.specs.Prelude.{◌≡◌};
+ghost use Rattle.vol_mount.specs.declared.lent.MountErr.{MountErr};
+ghost use Rattle.vol_mount.specs.declared.lent.FormatErr.{FormatErr};
+
 use fd_table::FdSlot;
 use geometry::GeoErr;
-use nor_core::{Nor, NorState};
+use nor_core::{Failed, Nor, NorState};
 use thiserror::Error;
 
 /// The memory that a mounted volume works with. What it holds at first doesn't matter.
@@ -90,6 +94,14 @@ pub enum MountErr {
     DeviceFault,
 }
 
+impl From<Failed> for MountErr {
+    ghost from_gives = { λ _ why. why ≡ MountErr.DeviceFault };
+
+    fn from(_: Failed) -> MountErr {
+        MountErr::DeviceFault
+    }
+}
+
 /// Why a volume is not formatted.
 #[derive(Clone, Copy, Debug, PartialEq, Eq, Error)]
 pub enum FormatErr {
@@ -99,4 +111,12 @@ pub enum FormatErr {
     /// The device failed. What was written stays, and the volume can be formatted again.
     #[error("the device failed")]
     DeviceFault,
+}
+
+impl From<Failed> for FormatErr {
+    ghost from_gives = { λ _ why. why ≡ FormatErr.DeviceFault };
+
+    fn from(_: Failed) -> FormatErr {
+        FormatErr::DeviceFault
+    }
 }

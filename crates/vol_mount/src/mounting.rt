@@ -135,9 +135,9 @@ pub fn mount<N: Nor>(v: &mut View<'_, N>) -> Result<(), MountErr>
     ensures told { N.tells v.old.nor.now → OnOk result (the_spoiled v.old.geometry (N.bytes v.old.nor.now) ≤ 1) }
     ensures spoiled { N.tells v.old.nor.now → IfErr result (CountsSpoiled v.old.geometry (N.bytes v.old.nor.now)) }
 {
-    match spoiled_blocks(v) {
-        Err(Failed) => Err(MountErr::DeviceFault),
-        Ok(spoiled) if spoiled >= 2 => Err(MountErr::NotAFs { spoiled }),
-        Ok(_) => Ok(()),
+    let spoiled = spoiled_blocks(v)?;
+    if spoiled >= 2 {
+        return Err(MountErr::NotAFs { spoiled });
     }
+    Ok(())
 }

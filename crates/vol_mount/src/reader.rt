@@ -125,24 +125,17 @@ impl<'b, N: Nor> Reader<'b, N> {
         ensures known { OnOk result (self.new.known ≡ true) }
         ensures same { IsSameReader self.old self.new }
     {
-        match self.survey() {
-            Err(Failed) => Err(FsErr::DeviceFault),
-            Ok(()) => {
-                let marks = &mut *self.check;
-                match next_on(
-                    self.geometry,
-                    self.nor,
-                    self.work,
-                    &mut [],
-                    self.cache,
-                    marks,
-                    after,
-                ) {
-                    Err(Failed) => Err(FsErr::DeviceFault),
-                    Ok(found) => Ok(found),
-                }
-            }
-        }
+        self.survey()?;
+        let marks = &mut *self.check;
+        Ok(next_on(
+            self.geometry,
+            self.nor,
+            self.work,
+            &mut [],
+            self.cache,
+            marks,
+            after,
+        )?)
     }
 
     /// The damaged file of the least id above `after`, with the first cause of its damage, or none: each id that has a
@@ -156,24 +149,17 @@ impl<'b, N: Nor> Reader<'b, N> {
         ensures known { OnOk result (self.new.known ≡ true) }
         ensures same { IsSameReader self.old self.new }
     {
-        match self.survey() {
-            Err(Failed) => Err(FsErr::DeviceFault),
-            Ok(()) => {
-                let marks = &mut *self.check;
-                match damaged_on(
-                    self.geometry,
-                    self.nor,
-                    self.work,
-                    &mut [],
-                    self.cache,
-                    marks,
-                    after,
-                ) {
-                    Err(Failed) => Err(FsErr::DeviceFault),
-                    Ok(found) => Ok(found),
-                }
-            }
-        }
+        self.survey()?;
+        let marks = &mut *self.check;
+        Ok(damaged_on(
+            self.geometry,
+            self.nor,
+            self.work,
+            &mut [],
+            self.cache,
+            marks,
+            after,
+        )?)
     }
 
     /// The bytes of the table's file of an id, from byte `at` on, as many as there are and fit; the answer is how many,
@@ -188,23 +174,19 @@ impl<'b, N: Nor> Reader<'b, N> {
         ensures known { OnOk result (self.new.known ≡ true) }
         ensures same { IsSameReader self.old self.new }
     {
-        match self.survey() {
-            Err(Failed) => Err(FsErr::DeviceFault),
-            Ok(()) => {
-                let marks = &mut *self.check;
-                read_on(
-                    self.geometry,
-                    self.nor,
-                    self.work,
-                    &mut [],
-                    self.cache,
-                    marks,
-                    id,
-                    at,
-                    into,
-                )
-            }
-        }
+        self.survey()?;
+        let marks = &mut *self.check;
+        read_on(
+            self.geometry,
+            self.nor,
+            self.work,
+            &mut [],
+            self.cache,
+            marks,
+            id,
+            at,
+            into,
+        )
     }
 
     /// Gives back what was lent.

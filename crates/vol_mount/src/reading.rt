@@ -11,7 +11,7 @@ ghost use Rattle.vol_mount.specs.Reads.{ReadAnswers, IsReadErr};
 
 use file_find::{find_file, next_file};
 use file_read::{read_from, stat_at};
-use flash_view::{StepErr, View};
+use flash_view::View;
 use nor_core::{Failed, Nor, NorState};
 use table_model::{FsErr, Stat};
 
@@ -53,13 +53,8 @@ pub(crate) fn read_file<N: Nor>(
     ensures looks { OnlyLooks v.old v.new }
     ensures told { N.tells v.old.nor.now → ReadAnswers v.old.geometry (N.bytes v.old.nor.now) id at into.old into.new result }
 {
-    match find_file(v, marks, id) {
-        Err(Failed) => Err(FsErr::DeviceFault),
-        Ok(None) => Err(FsErr::NotFound),
-        Ok(Some(header)) => match read_from(v, id, header, at, into) {
-            Err(StepErr::DeviceFault) => Err(FsErr::DeviceFault),
-            Err(StepErr::Damaged(differ)) => Err(FsErr::Damaged(differ)),
-            Ok(count) => Ok(count),
-        },
+    match find_file(v, marks, id)? {
+        Some(header) => Ok(read_from(v, id, header, at, into)?),
+        None => Err(FsErr::NotFound),
     }
 }

@@ -23,7 +23,7 @@ use Rattle.table_model.specs.Window.{Moment, after, settled_at, leaves_window, i
 use Rattle.image_model.specs.Tables.{table_of}
 use Rattle.image_model.specs.Tidy.{HasReserve, has_spare}
 use Rattle.write_window.specs.Runs.{Run}
-use Rattle.call_model.specs.Safe.{IsSafe, Holds as HoldsImage}
+use Rattle.call_model.specs.Safe.{IsSafe, HoldsImage}
 use Rattle.call_model.specs.Memory.{IsAt, RunWaits}
 use Rattle.call_model.specs.Calls.{Stands, Publishes, Answers}
 use Rattle.call_model.proofs.Safety.{holds_safe, holds_then, holds_itself, safe_as, safe_of_tidy}
@@ -47,7 +47,7 @@ use Rattle.volume.specs.Replies.{breaks, may_settle}
 use Rattle.file_calls.specs.Moves.{Moves}
 use Rattle.file_calls.specs.States.{IsImageOf}
 use Rattle.volume.specs.Holds.{memory, Holds}
-use Rattle.file_calls.specs.Goes.{CallCut, IsDoable, IsCorner, StopsShort, IsCollected, StandsOn}
+use Rattle.file_calls.specs.Goes.{CallCut, IsDoable, IsCornerOn, StopsShort, IsCollected, StandsOn}
 use Rattle.volume.specs.Acts.{Acts}
 use Rattle.volume.specs.Unchanged.{Unchanged}
 use Rattle.volume.specs.Settles.{Settles}
@@ -129,7 +129,7 @@ shown_apart _ into never = refl
 
 -- a write doesn't stop short
 whole_write : (g : Geometry) (image : List ℕ) (s : State) (fd : ℕ) (bytes : List ℕ) (reply : Answer) → StopsShort g image s (Writes fd bytes) reply → ⊥
-whole_write g image s fd bytes reply short = ⊎_elim (λ (is : Writes fd bytes ≡ Collects). cc) (λ (corner : IsCorner g image s (Writes fd bytes)). let no : false ≡ true = corner.cuts in cc) short.why
+whole_write g image s fd bytes reply short = ⊎_elim (λ (is : Writes fd bytes ≡ Collects). cc) (λ (corner : IsCornerOn g image s (Writes fd bytes)). let no : false ≡ true = corner.cuts in cc) short.why
 
 fill_answers : (fd count byte : ℕ) (reply : Answer) → may_answer (Writes fd (replicate count byte)) reply ≡ true → may_answer (Fills fd count byte) reply ≡ true
 fill_answers fd count byte (Refuses why) e = e
@@ -379,7 +379,7 @@ module _ {N : Type 0} {nor : NorOf N} where
     short_before m here short = record {
       why = ⊎_elim
           (λ (is : ask ≡ Collects). inl is)
-          (λ (corner : IsCorner old.geometry (nor.bytes mid.nor.now) m.state ask). inr (record { cuts = corner.cuts; reserve = reserve_before m here corner.reserve; full = corner.full; done = subst (λ (b : Bool). is_refusal (answer old.geometry b m.state ask).answer ≡ false) (spare m here) corner.done }))
+          (λ (corner : IsCornerOn old.geometry (nor.bytes mid.nor.now) m.state ask). inr (record { cuts = corner.cuts; reserve = reserve_before m here corner.reserve; full = corner.full; done = subst (λ (b : Bool). is_refusal (answer old.geometry b m.state ask).answer ≡ false) (spare m here) corner.done }))
           short.why;
       doable = does_before m here short.doable;
       tight = short.tight;
@@ -486,7 +486,7 @@ module _ {N : Type 0} {nor : NorOf N} where
       packed = λ m takes here is fine. let p = (acts.does.collects m.state (image_mid m here) is).packed fine in record { worth = p.worth; packed = p.packed; free = p.free; unstuck = p.unstuck };
       unstuck = λ m takes here reserve is tight. ((acts.does.collects m.state (image_mid m here) is).stuck tight).short ((stood m here).1.reserve reserve);
       cornered = λ m takes here corner tight.
-          let there : IsCorner old.geometry (nor.bytes mid.nor.now) m.state ask = record { cuts = corner.cuts; reserve = (stood m here).1.reserve corner.reserve; full = corner.full; done = subst (λ (b : Bool). is_refusal (answer old.geometry b m.state ask).answer ≡ false) (sym (spare m here)) corner.done } in
+          let there : IsCornerOn old.geometry (nor.bytes mid.nor.now) m.state ask = record { cuts = corner.cuts; reserve = (stood m here).1.reserve corner.reserve; full = corner.full; done = subst (λ (b : Bool). is_refusal (answer old.geometry b m.state ask).answer ≡ false) (sym (spare m here)) corner.done } in
           let stays = acts.does.cornered m.state (image_mid m here) there tight in
           let geometry = same.geometry ∙ settles.same.geometry in
           let now = stands_by old.geometry new m.state (acts.empty (ap is_refusal tight)) stays.holds in

@@ -29,7 +29,7 @@ use Rattle.volume.specs.Holds.{memory, Holds}
 use Rattle.volume.specs.Mapping.{KeepsMap}
 use Rattle.volume.specs.Unchanged.{Unchanged}
 use Rattle.volume.specs.Packed.{IsPackedNow}
-use Rattle.file_calls.specs.Goes.{IsDoable, IsCorner, StopsShort, IsCollected, IsGiven}
+use Rattle.file_calls.specs.Goes.{IsDoable, IsCornerOn, StopsShort, IsCollected, IsGiven}
 
 module _ {N : Type 0} {nor : NorOf N} where
   -- bytes wait
@@ -73,7 +73,7 @@ module _ {N : Type 0} {nor : NorOf N} where
     pub unstuck : (m : Moment) → takes_calls old ≡ true → Holds old m → HasReserve old.geometry (nor.bytes old.nor.now) → ask ≡ Collects →
         reply ≡ Refuses Tight → ⊥
     -- Tight for want of a page for a cut, nothing is changed but where pages stand, and that what waited is on the chip
-    pub cornered : (m : Moment) → takes_calls old ≡ true → Holds old m → IsCorner old.geometry (nor.bytes old.nor.now) m.state ask →
+    pub cornered : (m : Moment) → takes_calls old ≡ true → Holds old m → IsCornerOn old.geometry (nor.bytes old.nor.now) m.state ask →
         reply ≡ Refuses Tight → StaysTight old new m
     -- telling an offset changes nothing, and a write that goes on with what waits asks nothing of the device
     pub leaves : takes_calls old ≡ true → leaves_window ask ≡ true → new ≡ old

@@ -14,7 +14,7 @@ use Rattle.image_model.specs.Tidy.{IsTidy}
 use Rattle.flash_view.specs.declared.kinds.StepErr.{StepErr}
 use Rattle.flash_view.specs.declared.kinds.StepErr.TheVariants.{DeviceFault as StepFault}
 use Rattle.flash_view.specs.Steps.{is_apart, as_fs_err}
-use Rattle.call_model.specs.Safe.{IsSafe, Holds as HoldsImage}
+use Rattle.call_model.specs.Safe.{IsSafe, HoldsImage}
 use Rattle.call_model.specs.Memory.{IsAt}
 use Rattle.wear_scrub.specs.declared.scrubs.Scrub.{Scrub}
 use Rattle.wear_scrub.specs.Scrubs.{ScrubCut, ScrubDone, IsRest, most_programs}

@@ -11,7 +11,7 @@ use Rattle.table_model.specs.Table.{File, file_of}
 use Rattle.table_model.specs.Reply.{Refuses}
 use Rattle.table_model.specs.Window.{Moment, settled_at, from_settled, IsAmong}
 use Rattle.image_model.specs.Tables.{table_of}
-use Rattle.call_model.specs.Safe.{IsSafe, Holds as HoldsImage}
+use Rattle.call_model.specs.Safe.{IsSafe, HoldsImage}
 use Rattle.call_model.specs.Memory.{IsAt}
 use Rattle.trim_laws.specs.Upkeep.{Upkeep}
 use Rattle.write_window.specs.Runs.{Run}

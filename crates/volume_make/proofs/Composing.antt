@@ -9,7 +9,7 @@ use Rattle.nor_core.specs.declared.state.NorState.{Ghosts as NorOf}
 use Rattle.table_model.specs.declared.reply.Info.{Info}
 use Rattle.table_model.specs.Table.{File}
 use Rattle.table_model.specs.Ask.{Writes, Closes}
-use Rattle.folder_core.specs.Files.{Entry, File as FolderFile, entry_of, entries_of, name_at, size_at, bytes_at}
+use Rattle.folder_core.specs.Files.{Entry, FolderFile, entry_of, entries_of, name_at, size_at, bytes_at}
 use Rattle.folder_core.specs.Puts.{Kept}
 use Rattle.folder_core.specs.declared.state.FolderState.{Ghosts as FolderOf}
 use Rattle.volume.specs.declared.volume.Volume.{Volume}

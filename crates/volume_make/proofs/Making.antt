@@ -14,7 +14,7 @@ use Rattle.table_model.specs.Reply.{Answer, Tells, Counts, Refuses}
 use Rattle.table_model.specs.Flat.{answer}
 use Rattle.table_model.specs.Steps.{is_refusal}
 use Rattle.table_model.specs.declared.error.FsErr.{FsErr}
-use Rattle.folder_core.specs.Files.{Entry, File as FolderFile, entry_of, entries_of, name_at, size_at, bytes_at}
+use Rattle.folder_core.specs.Files.{Entry, FolderFile, entry_of, entries_of, name_at, size_at, bytes_at}
 use Rattle.folder_core.specs.Puts.{Kept}
 use Rattle.folder_core.specs.declared.state.FolderState.{Ghosts as FolderOf}
 use Rattle.volume.specs.declared.volume.Volume.{Volume}

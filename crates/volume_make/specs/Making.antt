@@ -8,7 +8,7 @@ use Rattle.table_model.specs.Calls.{info_of}
 use Rattle.table_model.specs.Ask.{Ask}
 use Rattle.table_model.specs.Flat.{answer}
 use Rattle.table_model.specs.Steps.{is_refusal}
-use Rattle.folder_core.specs.Files.{Entry, File as FolderFile, entries_of, name_at, bytes_at}
+use Rattle.folder_core.specs.Files.{Entry, FolderFile, entries_of, name_at, bytes_at}
 use Rattle.folder_core.specs.declared.state.FolderState.{Ghosts as FolderOf}
 use Rattle.volume.specs.declared.volume.Volume.{Volume}
 use Rattle.volume_run.specs.Ready.{IsReady}

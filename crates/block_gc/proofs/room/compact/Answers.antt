@@ -1,25 +1,29 @@
-use Rattle.std.proofs.Common.{ap, inl}
+use Rattle.std.proofs.Common.{◌≡◌, ap, inl, rules, Err}
 use Rattle.block_gc.specs.declared.room.RoomErr.TheVariants.{Step}
 use Rattle.block_gc.proofs.Cleanings.{never_stuck_there}
 use Rattle.block_gc.proofs.room.compact.Goals as goal
 
-pub returns-in-Err-clause-undamaged : goal.returns-in-Err-clause-undamaged
-returns-in-Err-clause-undamaged g c = λ tells t. inl (ap Step (c.in-Err.ensures.ends tells t))
+pub returns-in_err-pack-clause-undamaged : goal.returns-in_err-pack-clause-undamaged
+returns-in_err-pack-clause-undamaged g c =
+    let is : c.from_residual.result ≡ Err (Step c.in_err-pack.field-0.0) = search rules in
+    rw is (λ tells t. inl (ap Step (c.in_err-pack.ensures.ends tells t)))
 
-pub returns-in-Ok-false-clause-done : goal.returns-in-Ok-false-clause-done
-returns-in-Ok-false-clause-done g c = λ tells t. rw c.in-Ok-false.field-0-test at (c.in-Ok-false.ensures.ends tells t)
+pub returns-else-branch-clause-done : goal.returns-else-branch-clause-done
+returns-else-branch-clause-done g c = λ tells t. rw c.if-branch.false at (c.in_ok-pack.ensures.ends tells t)
 
-pub returns-in-Ok-true-clause-tight : goal.returns-in-Ok-true-clause-tight
-returns-in-Ok-true-clause-tight g c = λ tells t says. rw c.in-Ok-true.field-0-test at (c.in-Ok-true.ensures.ends tells t)
+pub returns-then-branch-clause-tight : goal.returns-then-branch-clause-tight
+returns-then-branch-clause-tight g c = λ tells t says. rw c.if-branch.true at (c.in_ok-pack.ensures.ends tells t)
 
-pub returns-in-Ok-true-clause-never_tight : goal.returns-in-Ok-true-clause-never_tight
-returns-in-Ok-true-clause-never_tight g c = λ tells can says. never_stuck_there _ _ _ can (rw c.in-Ok-true.field-0-test at (c.in-Ok-true.ensures.ends tells can.tidy))
+pub returns-then-branch-clause-never_tight : goal.returns-then-branch-clause-never_tight
+returns-then-branch-clause-never_tight g c = λ tells can says. never_stuck_there _ _ _ can (rw c.if-branch.true at (c.in_ok-pack.ensures.ends tells can.tidy))
 
-pub returns-in-Err-clause-stands : goal.returns-in-Err-clause-stands
-returns-in-Err-clause-stands g c = λ tells t stood. tt
+pub returns-in_err-pack-clause-stands : goal.returns-in_err-pack-clause-stands
+returns-in_err-pack-clause-stands g c =
+    let is : c.from_residual.result ≡ Err (Step c.in_err-pack.field-0.0) = search rules in
+    rw is (λ tells t stood. tt)
 
-pub returns-in-Ok-false-clause-stands : goal.returns-in-Ok-false-clause-stands
-returns-in-Ok-false-clause-stands g c = λ tells t stood. c.in-Ok-false.ensures.stands tells t stood
+pub returns-else-branch-clause-stands : goal.returns-else-branch-clause-stands
+returns-else-branch-clause-stands g c = λ tells t stood. c.in_ok-pack.ensures.stands tells t stood
 
-pub returns-in-Ok-true-clause-stands : goal.returns-in-Ok-true-clause-stands
-returns-in-Ok-true-clause-stands g c = λ tells t stood. c.in-Ok-true.ensures.stands tells t stood
+pub returns-then-branch-clause-stands : goal.returns-then-branch-clause-stands
+returns-then-branch-clause-stands g c = λ tells t stood. c.in_ok-pack.ensures.stands tells t stood

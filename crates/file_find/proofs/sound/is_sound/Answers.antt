@@ -1,5 +1,5 @@
 use Rattle.std.proofs.Common.{arith}
-use Rattle.file_find.proofs.Sound.{none_damaged}
+use Rattle.file_find.proofs.Undamaged.{none_damaged}
 use Rattle.file_find.proofs.sound.is_sound.Goals as goal
 
 pub returns-then-lacks : goal.returns-then-lacks

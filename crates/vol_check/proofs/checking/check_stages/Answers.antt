@@ -1,17 +1,17 @@
 use Rattle.vol_check.proofs.Working.{work_changes}
 use Rattle.vol_check.proofs.checking.check_stages.Goals as goal
 
-pub returns-in-Ok-clause-changes : goal.returns-in-Ok-clause-changes
-returns-in-Ok-clause-changes g c = work_changes c.in-Ok.ensures c.requires.magics (λ tells. tt)
+pub returns-clause-changes : goal.returns-clause-changes
+returns-clause-changes g c = work_changes c.in_ok-clean.ensures c.requires.magics (λ tells. tt)
 
-pub returns-in-Ok-clause-done : goal.returns-in-Ok-clause-done
-returns-in-Ok-clause-done g c = λ tells. c.in-Ok.ensures.step.ends tells (c.requires.magics tells, tt)
+pub returns-clause-done : goal.returns-clause-done
+returns-clause-done g c = λ tells. c.in_ok-clean.ensures.step.ends tells (c.requires.magics tells, tt)
 
-pub returns-in-Ok-clause-idle : goal.returns-in-Ok-clause-idle
-returns-in-Ok-clause-idle g c = λ tells tidy. c.in-Ok.ensures.idle tells (c.requires.magics tells) tt tidy
+pub returns-clause-idle : goal.returns-clause-idle
+returns-clause-idle g c = λ tells tidy. c.in_ok-clean.ensures.idle tells (c.requires.magics tells) tt tidy
 
-pub returns-in-Err-clean-clause-changes : goal.returns-in-Err-clean-clause-changes
-returns-in-Err-clean-clause-changes g c = work_changes c.in-Err-clean.ensures c.requires.magics (λ tells. tt)
+pub returns-in_err-clean-clause-changes : goal.returns-in_err-clean-clause-changes
+returns-in_err-clean-clause-changes g c = work_changes c.in_err-clean.ensures c.requires.magics (λ tells. tt)
 
-pub returns-in-Err-clean-clause-idle : goal.returns-in-Err-clean-clause-idle
-returns-in-Err-clean-clause-idle g c = λ tells tidy. c.in-Err-clean.ensures.idle tells (c.requires.magics tells) tt tidy
+pub returns-in_err-clean-clause-idle : goal.returns-in_err-clean-clause-idle
+returns-in_err-clean-clause-idle g c = λ tells tidy. c.in_err-clean.ensures.idle tells (c.requires.magics tells) tt tidy

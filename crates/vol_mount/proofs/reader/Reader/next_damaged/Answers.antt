@@ -2,9 +2,9 @@ use Rattle.std.proofs.Common.{arith, ◌∙◌}
 use Rattle.vol_mount.proofs.Same.{few_more}
 use Rattle.vol_mount.proofs.reader.Reader.next_damaged.Goals as goal
 
-pub returns-in-Ok-damaged_on-clause-same : goal.returns-in-Ok-damaged_on-clause-same
-returns-in-Ok-damaged_on-clause-same g c =
-    let first = c.in-Ok.ensures.same in
+pub returns-clause-same : goal.returns-clause-same
+returns-clause-same g c =
+    let first = c.in_ok-survey.ensures.same in
     let call = c.damaged_on.ensures in
     record {
       geometry = first.geometry;
