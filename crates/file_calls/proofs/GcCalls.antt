@@ -49,7 +49,7 @@ room_cuts old sized changes = wider changes (λ tells image cut tidy. let w = cu
 -- the blocks that it cleans, where each cleaning began without the pages that it is for
 pub room_cleans : {N : Type 0} {nor : NorOf N} {d : N} {index pages : ℕ} {P : Type 0} (old : View N nor) → Changes nor old.nor.now d (λ was image. IsTidy old.geometry was → RoomCut old.geometry was image) → IsTidy old.geometry (nor.bytes old.nor.now) →
     (IsReady old.geometry (nor.bytes old.nor.now) index pages → OnlyReads nor old.nor.now d) → ((P → ⊥) → SweptFor old.geometry index pages (nor.bytes old.nor.now) (nor.bytes d)) → CleansFor nor old.geometry index pages old.nor.now d P
-room_cleans {d = d} old changes tidy idle needed = record {
+room_cleans {nor = nor} {d = d} old changes tidy idle needed = record {
   mid = d;
   first = wider changes (λ tells image cut. cut tidy);
   idle = idle;
