@@ -35,10 +35,8 @@ fn say_all<B: Board>(board: &mut B, found: &[Found]) -> Result<(), Failed>
         let Some(next) = next_best(found, last) else {
             return Ok(());
         };
-        match say_found(board, &next) {
-            Ok(()) => last = Some(next),
-            Err(Failed) => return Err(Failed),
-        }
+        say_found(board, &next)?;
+        last = Some(next);
     }
     Ok(())
 }

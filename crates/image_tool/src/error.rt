@@ -1,3 +1,7 @@
+ghost use Rattle.std.specs.Prelude.{◌≡◌};
+ghost use Rattle.image_tool.specs.declared.error.ToolErr.{ToolErr};
+
+use nor_core::Failed;
 use table_model::Differ;
 
 /// Why a tool stops before its work is done.
@@ -5,6 +9,14 @@ use table_model::Differ;
 pub enum ToolErr {
     /// The board failed.
     BoardFault,
+}
+
+impl From<Failed> for ToolErr {
+    ghost from_gives = { λ _ why. why ≡ ToolErr.BoardFault };
+
+    fn from(_: Failed) -> ToolErr {
+        ToolErr::BoardFault
+    }
 }
 
 /// Why the files of a volume are not all put into a folder.

@@ -142,11 +142,6 @@ pub fn list<B: Board>(
     ensures whole { B.tells v.old.nor.now → OnOk result (B.said v.new.nor.now ≡ B.said v.old.nor.now ++ list_of v.old.geometry (B.bytes v.old.nor.now)) }
     ensures front { B.tells v.old.nor.now → OnErr result (SaysFront B.NorState v.old.nor.now v.new.nor.now (list_of v.old.geometry (B.bytes v.old.nor.now))) }
 {
-    let Ok(()) = survey(v, marks) else {
-        return Err(ToolErr::BoardFault);
-    };
-    match list_marked(v, marks, line) {
-        Err(Failed) => Err(ToolErr::BoardFault),
-        Ok(count) => Ok(count),
-    }
+    survey(v, marks)?;
+    Ok(list_marked(v, marks, line)?)
 }

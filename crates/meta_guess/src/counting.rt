@@ -78,10 +78,7 @@ fn count_marked_if<N: Nor>(v: &mut View<'_, N>, marks: &[u8]) -> Result<Option<C
     if is_sound(v, marks) {
         return Ok(None);
     }
-    match count_marked(v, marks) {
-        Ok(counts) => Ok(Some(counts)),
-        Err(why) => Err(why),
-    }
+    Ok(Some(count_marked(v, marks)?))
 }
 
 // Both, of a view, where an id is damaged.

@@ -140,10 +140,8 @@ fn say_span<B: Board>(volume: &mut Volume<'_, B>, span: u32) -> Result<bool, Fai
     if page == 0xFFFF {
         return Ok(false);
     }
-    match volume.say(span_line(span, page).as_slice()) {
-        Ok(()) => Ok(true),
-        Err(Failed) => Err(Failed),
-    }
+    volume.say(span_line(span, page).as_slice())?;
+    Ok(true)
 }
 
 // Says the lines of the spans that the map tells data pages for.
@@ -156,10 +154,10 @@ fn say_spans<B: Board>(volume: &mut Volume<'_, B>) -> Result<(), Failed>
 {
     let mut span = 0;
     'spans: while span < SPANS {
-        match say_span(volume, span) {
-            Ok(true) => span += 1,
-            Ok(false) => return Ok(()),
-            Err(Failed) => return Err(Failed),
+        if say_span(volume, span)? {
+            span += 1;
+        } else {
+            return Ok(());
         }
     }
     Ok(())

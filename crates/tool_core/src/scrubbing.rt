@@ -81,10 +81,10 @@ fn scrub_all<B: Board>(volume: &mut Volume<'_, B>, limit: u16) -> Result<u32, En
     let blocks = volume.geometry.blocks();
     let mut moved = 0;
     'steps: while moved < blocks {
-        match scrub_turn(volume, limit) {
-            Ok(true) => moved += 1,
-            Ok(false) => return Ok(moved),
-            Err(ending) => return Err(ending),
+        if scrub_turn(volume, limit)? {
+            moved += 1;
+        } else {
+            return Ok(moved);
         }
     }
     Ok(moved)
@@ -103,10 +103,7 @@ fn scrub_and_count<B: Board>(volume: &mut Volume<'_, B>, limit: u16) -> Result<T
     ensures makes { (slots : ℕ) → memory volume.old ≡ closed_memory slots →
         Makes B.NorState volume.old.geometry slots volume.old.nor.now volume.new.nor.now (memory volume.new) result (IsTally volume.old.geometry limit) }
 {
-    let moved = match scrub_all(volume, limit) {
-        Ok(moved) => moved,
-        Err(ending) => return Err(ending),
-    };
+    let moved = scrub_all(volume, limit)?;
     match volume.space() {
         Ok(space) => Ok(Tally {
             moved,

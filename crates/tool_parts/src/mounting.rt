@@ -96,13 +96,9 @@ pub fn begin<B: Board>(volume: &mut Volume<'_, B>, marks: &mut [u8]) -> Result<(
         HasReserve volume.old.geometry (B.bytes volume.old.nor.now) → OnlyReads B.NorState volume.old.nor.now volume.new.nor.now }
     ensures stops { B.tells volume.old.nor.now → IfErr result (StopsRun B.NorState volume.old.geometry volume.old.nor.now volume.new.nor.now) }
 {
-    match mount_and_check(volume, marks) {
-        Err(ending) => Err(ending),
-        Ok(report) => {
-            if report.free_blocks < 2 {
-                return Err(Ending::Tight(report.free_blocks));
-            }
-            Ok(())
-        }
+    let report = mount_and_check(volume, marks)?;
+    if report.free_blocks < 2 {
+        return Err(Ending::Tight(report.free_blocks));
     }
+    Ok(())
 }

@@ -13,7 +13,7 @@ ghost use Rattle.volume.specs.Checking.{ChecksVolume, Judges, as_check_err, chec
 use block_gc::{RoomErr, make_room, part_mixed};
 use flash_view::{StepErr, View};
 use free_search::{count_all, free_blocks};
-use nor_core::{Failed, Nor, NorState};
+use nor_core::{Nor, NorState};
 use vol_check::{CheckErr, Parting, Report, check_stages, judge_parting};
 
 // How a check failed whose cleaning did.
@@ -42,10 +42,7 @@ fn clear<N: Nor>(v: &mut View<'_, N>) -> Result<u32, CheckErr>
     ensures { Stepped check_stopped v.old v.new result clearing }
 {
     sweep(v)?;
-    match free_blocks(v) {
-        Err(Failed) => Err(CheckErr::DeviceFault),
-        Ok(free) => Ok(free),
-    }
+    Ok(free_blocks(v)?)
 }
 
 // Whether blocks are shared. A volume that may not be written is refused, and one whose shared blocks don't fit over.
@@ -56,11 +53,10 @@ fn judge<N: Nor>(v: &mut View<'_, N>, marks: &mut [u8]) -> Result<bool, CheckErr
     if let Err(why) = v.geometry.writable() {
         return Err(CheckErr::Wrong(why));
     }
-    match judge_parting(v, marks) {
-        Err(Failed) => Err(CheckErr::DeviceFault),
-        Ok(Parting::None) => Ok(false),
-        Ok(Parting::Fits) => Ok(true),
-        Ok(Parting::Over { blocks }) => Err(CheckErr::Mixed { blocks }),
+    match judge_parting(v, marks)? {
+        Parting::None => Ok(false),
+        Parting::Fits => Ok(true),
+        Parting::Over { blocks } => Err(CheckErr::Mixed { blocks }),
     }
 }
 
@@ -83,10 +79,7 @@ fn divide<N: Nor>(v: &mut View<'_, N>, shares: bool, free: u32) -> Result<u32, C
         return Ok(free);
     }
     part(v)?;
-    match free_blocks(v) {
-        Err(Failed) => Err(CheckErr::DeviceFault),
-        Ok(free) => Ok(free),
-    }
+    Ok(free_blocks(v)?)
 }
 
 // Parts them so, and then cleans blocks where fewer than two are free, and tells how many are.
@@ -131,10 +124,7 @@ fn count_again<N: Nor>(v: &mut View<'_, N>) -> Result<(), CheckErr>
     if v.counted || v.rows.len() < v.geometry.rows_need() as usize {
         return Ok(());
     }
-    match count_all(v) {
-        Err(Failed) => Err(CheckErr::DeviceFault),
-        Ok(()) => Ok(()),
-    }
+    Ok(count_all(v)?)
 }
 
 /// Checks a mounted volume so, and has the table of block counts stand then, where there is room for its rows.

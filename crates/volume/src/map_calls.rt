@@ -42,6 +42,16 @@ pub enum MapErr {
     MapBusy,
 }
 
+impl From<FsErr> for MapErr {
+    ghost use Rattle.volume.specs.declared.map_calls.MapErr.{MapErr};
+
+    ghost from_gives = { λ call why. why ≡ MapErr.Call call };
+
+    fn from(call: FsErr) -> MapErr {
+        MapErr::Call(call)
+    }
+}
+
 impl MapErr {
     ghost use Rattle.std.specs.Prelude.{◌≡◌};
     ghost use Rattle.volume.specs.MapReads.{map_number};
@@ -330,14 +340,10 @@ impl<'b, N: Nor> Volume<'b, N> {
     pub fn read_map(&mut self, at: u32, into: &mut [u8]) -> Result<u32, MapErr>
         ensures { ReadsMap self.old self.new at into.old into.new result }
     {
-        match self.settled() {
-            Err(why) => Err(MapErr::Call(why)),
-            Ok(had) => {
-                let result = self.read_settled(at, into);
-                self.stage = stage_of(&result, had);
-                result
-            }
-        }
+        let had = self.settled()?;
+        let result = self.read_settled(at, into);
+        self.stage = stage_of(&result, had);
+        result
     }
 
     /// Gives back the bytes of a map, if they are lent; then there is no map. Written bytes go on waiting.

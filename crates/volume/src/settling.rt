@@ -145,9 +145,7 @@ impl<'b, N: Nor> Volume<'b, N> {
         ensures closed { takes_calls self.old ≡ false → (result ≡ Err FsErr.Failed) × (self.new ≡ self.old) }
         ensures map { (m : Moment) → takes_calls self.old ≡ true → Holds self.old m → KeepsMap self.old self.new (breaks (told (λ done. Fine) result)) }
     {
-        match self.settled() {
-            Ok(_) => Ok(()),
-            Err(why) => Err(why),
-        }
+        self.settled()?;
+        Ok(())
     }
 }

@@ -27,10 +27,9 @@ fn open_new<N: Nor>(volume: &mut Volume<'_, N>, name: &[u8]) -> Result<u16, PutE
     ensures begins { IfOk result (BeginsFrom name.now volume.old volume.new) }
     ensures stops { IfErr result (StopsBeginning name.now volume.old) }
 {
-    match open(volume, name, NEW) {
-        Ok(Some(fd)) => Ok(fd),
-        Ok(None) => Err(PutErr::Refused),
-        Err(stop) => Err(PutErr::Stopped(stop)),
+    match open(volume, name, NEW)? {
+        Some(fd) => Ok(fd),
+        None => Err(PutErr::Refused),
     }
 }
 

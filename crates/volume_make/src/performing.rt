@@ -29,14 +29,10 @@ pub(crate) fn perform<N: Nor>(volume: &mut Volume<'_, N>, call: &Call<'_>) -> Re
     ensures done { OnOk result (DoneFrom volume.old (asked call.now) volume.new) }
     ensures undone { IfErr result (UndoneFrom volume.old (asked call.now)) }
 {
-    match ask(volume, call, &mut []) {
-        Ok(told) => {
-            if is_refused(&told) {
-                Err(PutErr::Refused)
-            } else {
-                Ok(())
-            }
-        }
-        Err(stop) => Err(PutErr::Stopped(stop)),
+    let told = ask(volume, call, &mut [])?;
+    if is_refused(&told) {
+        Err(PutErr::Refused)
+    } else {
+        Ok(())
     }
 }

@@ -1,4 +1,4 @@
-use Rattle.std.proofs.Common.{◌<◌, length, arith}
+use Rattle.std.proofs.Common.{◌≡◌, ◌<◌, length, arith, rules, Err}
 use Rattle.detect_tool.proofs.Telling.{said_none, said_next, said_broken, said_all, not_done}
 use Rattle.detect_tool.proofs.saying.say_all.Goals as goal
 
@@ -22,16 +22,18 @@ loop-i-preserved g c = record {
   faults = omega (arith, c.loop-i.invariant.faults, c.say_found.ensures.says.cuts.faults);
   said = λ list r.
       let low : c.loop-i.i < length c.args.found.now = omega (arith, c.loop-i-test.true, c.loop-i.auto.i-end) in
-      said_next c.args.found.now list r c.loop-i.i c.loop-i.last c.in-Some.next low (c.loop-i.invariant.said list r) c.in-Some.ensures c.say_found.ensures.says c.in-Ok.ensures.whole;
+      said_next c.args.found.now list r c.loop-i.i c.loop-i.last c.in-Some.next low (c.loop-i.invariant.said list r) c.in-Some.ensures c.say_found.ensures.says c.in_ok-say_found.ensures.whole;
 }
 
-pub returns-in-Err-clause-says : goal.returns-in-Err-clause-says
-returns-in-Err-clause-says g c = λ list r.
+pub returns-in_err-say_found-clause-says : goal.returns-in_err-say_found-clause-says
+returns-in_err-say_found-clause-says g c =
+    let is : c.from_residual.result ≡ Err c.in_err-say_found.field-0.0 = search rules in
+    rw is (λ list r.
     let low : c.loop-i.i < length c.args.found.now = omega (arith, c.loop-i-test.true, c.loop-i.auto.i-end) in
-    said_broken c.args.found.now list r c.loop-i.i c.loop-i.last c.in-Some.next _ low (c.loop-i.invariant.said list r) c.in-Some.ensures c.say_found.ensures.says c.in-Err.ensures.front
+    said_broken c.args.found.now list r c.loop-i.i c.loop-i.last c.in-Some.next _ low (c.loop-i.invariant.said list r) c.in-Some.ensures c.say_found.ensures.says c.in_err-say_found.ensures.front)
 
-pub returns-in-Err-clause-cause : goal.returns-in-Err-clause-cause
-returns-in-Err-clause-cause g c = omega (arith, c.loop-i.invariant.faults, c.in-Err.ensures.cause)
+pub returns-in_err-say_found-clause-cause : goal.returns-in_err-say_found-clause-cause
+returns-in_err-say_found-clause-cause g c = omega (arith, c.loop-i.invariant.faults, c.in_err-say_found.ensures.cause)
 
 pub returns-clause-says : goal.returns-clause-says
 returns-clause-says g c = λ list r. said_all c.args.found.now list r c.loop-i.i c.loop-i.last (omega (arith, c.loop-i-test.false, c.loop-i.auto.i-end)) (c.loop-i.invariant.said list r)

@@ -1,6 +1,6 @@
-use Rattle.std.proofs.Common.{◌≡◌, true, false, arith, rules}
+use Rattle.std.proofs.Common.{◌≡◌, true, false, arith, rules, Err}
 use Rattle.volume.proofs.Staying.{same_then, same_none}
-use Rattle.tool_core.proofs.MapSays.{span_as, spans_none, pages_then, spans_more, spans_done, spans_broken, spans_full}
+use Rattle.tool_core.proofs.MapSays.{spans_none, pages_then, spans_more, spans_done, spans_broken, spans_full}
 use Rattle.tool_core.proofs.mapping.say_spans.Goals as goal
 
 pub spans-init : goal.spans-init
@@ -12,20 +12,20 @@ spans-preserved g c = record {
   few = omega (arith, c.spans.invariant.few);
   says = λ id count pages.
       let was = c.spans.invariant.says id count pages in
-      let is = rw c.in-Ok-true.field-0-test at c.in-Ok-true.is in
-      spans_more c.spans.span c.spans.invariant.same.geometry was (span_as is (c.say_span.ensures.says id count (pages_then c.spans.span was)));
+      spans_more c.spans.span c.spans.invariant.same.geometry was (rw c.if-branch.true at (c.in_ok-say_span.ensures.says id count (pages_then c.spans.span was)));
 }
 
-pub returns-in-Ok-false-clause-says : goal.returns-in-Ok-false-clause-says
-returns-in-Ok-false-clause-says g c = λ id count pages.
+pub returns-else-branch-clause-says : goal.returns-else-branch-clause-says
+returns-else-branch-clause-says g c = λ id count pages.
     let was = c.spans.invariant.says id count pages in
-    let is = rw c.in-Ok-false.field-0-test at c.in-Ok-false.is in
-    spans_done c.spans.span c.spans.invariant.same.geometry was (span_as is (c.say_span.ensures.says id count (pages_then c.spans.span was)))
+    spans_done c.spans.span c.spans.invariant.same.geometry was (rw c.if-branch.false at (c.in_ok-say_span.ensures.says id count (pages_then c.spans.span was)))
 
-pub returns-in-Err-clause-says : goal.returns-in-Err-clause-says
-returns-in-Err-clause-says g c = λ id count pages.
+pub returns-in_err-say_span-clause-says : goal.returns-in_err-say_span-clause-says
+returns-in_err-say_span-clause-says g c =
+    let is : c.from_residual.result ≡ Err c.in_err-say_span.field-0.0 = search rules in
+    rw is (λ id count pages.
     let was = c.spans.invariant.says id count pages in
-    spans_broken c.spans.span _ c.spans.invariant.same.geometry was (span_as c.in-Err.is (c.say_span.ensures.says id count (pages_then c.spans.span was)))
+    spans_broken c.spans.span _ c.spans.invariant.same.geometry was (c.in_err-say_span.ensures.says id count (pages_then c.spans.span was)))
 
 pub returns-clause-says : goal.returns-clause-says
 returns-clause-says g c = λ id count pages. spans_full c.spans.span (omega (arith, c.spans-test.false)) (c.spans.invariant.says id count pages)

@@ -1,7 +1,6 @@
-use Rattle.std.proofs.Common.{◌≡◌, true, false, arith, rules}
+use Rattle.std.proofs.Common.{◌≡◌, true, false, arith, rules, Err}
 use Rattle.volume.proofs.Staying.{same_then, same_none}
 use Rattle.volume.specs.Holds.{memory}
-use Rattle.tool_core.proofs.ScrubEnds.{makes_ok, makes_err}
 use Rattle.tool_core.proofs.ScrubTurns.{makes_none, makes_more, makes_rest, makes_fails, makes_all}
 use Rattle.tool_core.proofs.scrubbing.scrub_all.Goals as goal
 
@@ -17,17 +16,20 @@ steps-init g c = record {
 pub steps-preserved : goal.steps-preserved
 steps-preserved g c = record {
   same = same_then c.steps.invariant.same c.scrub_turn.ensures.same;
-  stands = c.in-Ok-true.ensures.taken;
+  stands = c.in_ok-scrub_turn.ensures.taken;
   blocks = c.steps.invariant.blocks;
   few = omega (arith, c.steps.invariant.few);
-  makes = λ slots closed. makes_more c.steps.moved c.steps.volume.geometry c.steps.invariant.same.geometry (c.steps.invariant.makes slots closed) (λ still. let is = rw c.in-Ok-true.field-0-test at c.in-Ok-true.is in makes_ok is (c.scrub_turn.ensures.makes slots still));
+  makes = λ slots closed. makes_more c.steps.moved c.steps.volume.geometry c.steps.invariant.same.geometry (c.steps.invariant.makes slots closed) (λ still. rw c.if-branch.true at (c.in_ok-scrub_turn.ensures.makes slots still));
 }
 
-pub returns-in-Ok-false-clause-makes : goal.returns-in-Ok-false-clause-makes
-returns-in-Ok-false-clause-makes g c = λ slots closed. makes_rest c.steps.moved c.steps.volume.geometry c.steps.invariant.same.geometry (omega (arith, c.steps.invariant.few, c.steps.invariant.blocks)) (c.steps.invariant.makes slots closed) (λ still. let is = rw c.in-Ok-false.field-0-test at c.in-Ok-false.is in makes_ok is (c.scrub_turn.ensures.makes slots still))
+pub returns-else-branch-clause-makes : goal.returns-else-branch-clause-makes
+returns-else-branch-clause-makes g c = λ slots closed. makes_rest c.steps.moved c.steps.volume.geometry c.steps.invariant.same.geometry (omega (arith, c.steps.invariant.few, c.steps.invariant.blocks)) (c.steps.invariant.makes slots closed) (λ still. rw c.if-branch.false at (c.in_ok-scrub_turn.ensures.makes slots still))
 
-pub returns-in-Err-clause-makes : goal.returns-in-Err-clause-makes
-returns-in-Err-clause-makes g c = λ slots closed. makes_fails c.steps.moved c.in-Err.ending c.steps.volume.geometry c.steps.invariant.same.geometry (c.steps.invariant.makes slots closed) (λ still. makes_err c.in-Err.is (c.scrub_turn.ensures.makes slots still))
+pub returns-in_err-scrub_turn-clause-makes : goal.returns-in_err-scrub_turn-clause-makes
+returns-in_err-scrub_turn-clause-makes g c =
+    let failed = c.in_err-scrub_turn in
+    let is : c.from_residual.result ≡ Err failed.field-0.0 = search rules in
+    rw is (λ slots closed. makes_fails c.steps.moved failed.field-0.0 c.steps.volume.geometry c.steps.invariant.same.geometry (c.steps.invariant.makes slots closed) (λ still. failed.ensures.makes slots still))
 
 pub returns-clause-makes : goal.returns-clause-makes
 returns-clause-makes g c = λ slots closed. makes_all c.steps.moved (omega (arith, c.steps.invariant.few, c.steps.invariant.blocks, c.steps-test.false)) (c.steps.invariant.makes slots closed)

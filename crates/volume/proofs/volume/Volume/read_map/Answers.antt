@@ -1,12 +1,18 @@
-use Rattle.std.proofs.Common.{refl, arith}
+use Rattle.std.proofs.Common.{◌≡◌, refl, arith, rules, Ok, Err}
+use Rattle.volume.specs.declared.map_calls.MapErr.TheVariants.{Call}
 use Rattle.volume.proofs.MapCalls.{stopped_reads, mapped_reads}
 use Rattle.volume.proofs.volume.Volume.read_map.Goals as goal
 
-pub returns-in-Err : goal.returns-in-Err
-returns-in-Err g c = stopped_reads c.args.at c.args.into.now c.in-Err.why c.settled.result c.in-Err.is c.settled.ensures.closed c.settled.ensures.settles (λ m takes here. rw c.in-Err.is at (c.settled.ensures.map m takes here))
+pub returns-in_err-had : goal.returns-in_err-had
+returns-in_err-had g c =
+    let settled = c.in_err-had.ensures in
+    let why = c.in_err-had.field-0.0 in
+    let is : c.from_residual.result ≡ Err (Call why) = search rules in
+    rw is (stopped_reads c.args.at c.args.into.now why (Err why) refl settled.closed settled.settles settled.map)
 
-pub returns-in-Ok : goal.returns-in-Ok
-returns-in-Ok g c =
+pub returns : goal.returns
+returns g c =
+    let settled = c.in_ok-had.ensures in
     let read = c.read_settled-result.ensures in
     let mid = c.settled.new.self in
     mapped_reads read.looks
@@ -22,6 +28,6 @@ returns-in-Ok g c =
       faults = read.same.faults;
       few = read.same.few;
     })
-    read.slots (rw (read.held, read.window) refl) c.in-Ok.had c.settled.result c.in-Ok.is c.settled.ensures.closed c.settled.ensures.settles c.settled.ensures.still read.map read.numbers (λ m takes here. rw c.in-Ok.is at (c.settled.ensures.map m takes here))
+    read.slots (rw (read.held, read.window) refl) c.in_ok-had.had (Ok c.in_ok-had.had) refl settled.closed settled.settles settled.still read.map read.numbers settled.map
     c.args.at c.args.into.now c.read_settled-result.new.into c.read_settled-result.result c.stage_of-self.ensures read.once read.none read.apart read.cause read.differs read.told
     (λ tells. record { len = let sized = g.met.N.Nor.sized _ tells in omega (arith, sized, mid.fits) })
