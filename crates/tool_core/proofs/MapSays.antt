@@ -1,5 +1,5 @@
 -- The lines of a map, one after the other.
-use Rattle.std.proofs.Common.{◌≡◌, ◌≢◌, ℕ, zero, suc, ◌+◌, ◌<◌, ◌≤◌, ◌⊎◌, List, [], ◌++◌, refl, sym, ◌∙◌, ap, subst, arith, inl, inr, ⊎_elim, append-nil, append_assoc, Bool, true, false, Option, Some, None, Result, Ok, Err}
+use Rattle.std.proofs.Common.{◌≡◌, ◌≢◌, ℕ, zero, suc, ◌+◌, ◌<◌, ◌≤◌, ◌⊎◌, List, [], ◌++◌, refl, sym, ◌∙◌, ap, subst, arith, inl, inr, ⊎_elim, append-nil, append_assoc, Bool, true, false, Option, Some, None, Ok, Err}
 use Rattle.std.specs.Prelude.{nat_lt, if◌then◌else◌, unwrap_or, OnOk, OnErr}
 use Rattle.std.proofs.lemmas.Bool.{cases_lt}
 use Rattle.std.proofs.lemmas.Bool.Decides.{nat_tests}
@@ -123,11 +123,6 @@ module _ {N : Type 0} {nor : NorOf N} {id count : ℕ} where
         more = λ tells. tt;
         pages = λ tells. tt;
       }
-
-module _ {N : Type 0} {nor : NorOf N} {id count span : ℕ} where
-  -- a line that went so
-  pub span_as : {old new : Volume N nor} {result other : Result Bool Failed} → result ≡ other → SaysSpan id count span old new result → SaysSpan id count span old new other
-  span_as {old} {new} is says = subst (λ (r : Result Bool Failed). SaysSpan id count span old new r) is says
 
 -- ---- all lines
 

@@ -1,4 +1,4 @@
-use Rattle.std.proofs.Common.{◌≡◌, ◌∙◌, sym, arith, rules, Err}
+use Rattle.std.proofs.Common.{◌≡◌, ◌∙◌, sym, rules, Err}
 use Rattle.tool_core.specs.Mapping.{page_line}
 use Rattle.tool_core.proofs.MapSays.{untold_span, ended_span, said_span, broken_span}
 use Rattle.tool_core.proofs.mapping.say_span.Goals as goal
