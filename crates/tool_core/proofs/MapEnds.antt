@@ -15,7 +15,7 @@ use Rattle.call_model.specs.Safe.{IsSafe, HoldsImage}
 use Rattle.call_model.proofs.Safety.{holds_then, holds_itself}
 use Rattle.vol_check.specs.declared.report.Report.{Report}
 use Rattle.volume.specs.declared.volume.Volume.{Volume}
-use Rattle.volume.specs.Holds.{memory, Holds}
+use Rattle.volume.specs.Holds.{memory}
 use Rattle.volume.specs.Mapping.{is_attached, GivesUpMap, KeepsMap}
 use Rattle.volume.proofs.MapCalls.{right_in}
 use Rattle.image_model.specs.Places.{IsImage}

@@ -12,7 +12,6 @@ use Rattle.image_model.specs.Tables.{table_of}
 use Rattle.image_model.specs.Tidy.{IsTidy, HasReserve, free_blocks}
 use Rattle.call_model.specs.Memory.{Memory, IsAt}
 use Rattle.call_model.specs.Calls.{Stands}
-use Rattle.call_model.specs.Safe.{HoldsImage}
 use Rattle.call_model.proofs.Safety.{holds_safe, holds_itself, safe_as}
 use Rattle.fd_table.specs.Slots.{descriptors}
 use Rattle.wear_scrub.specs.declared.scrubs.Scrub.{Scrub}

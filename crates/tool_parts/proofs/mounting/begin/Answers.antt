@@ -11,8 +11,8 @@ returns-in_err-report-clause-stops g c =
 pub returns-then-report-lt2-clause-stops : goal.returns-then-report-lt2-clause-stops
 returns-then-report-lt2-clause-stops g c = λ tells. tight_stops _ _ c.in_ok-report.report (c.in_ok-report.ensures.reported tells) (omega arith)
 
-pub returns-else-report-lt2-clause-leaves : goal.returns-else-report-lt2-clause-leaves
-returns-else-report-lt2-clause-leaves g c = λ tells. check_leaves c.in_ok-report.report (c.in_ok-report.ensures.reported tells) (omega arith) (c.mount_and_check.ensures.idle tells)
+pub returns-clause-leaves : goal.returns-clause-leaves
+returns-clause-leaves g c = λ tells. check_leaves c.in_ok-report.report (c.in_ok-report.ensures.reported tells) (omega arith) (c.mount_and_check.ensures.idle tells)
 
 pub returns-in_err-report-clause-among : goal.returns-in_err-report-clause-among
 returns-in_err-report-clause-among g c =
