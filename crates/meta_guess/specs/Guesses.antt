@@ -13,7 +13,7 @@ pub record CountsOf (g : Geometry) (image : List ℕ) (counts : Counts) : Type 0
   pub whole : counts.whole ≡ length (table_of g image)
   pub damaged : counts.damaged ≡ length (damaged_of g image)
 
--- the same, or none where no id is damaged
+-- the counts; or none, where no id is damaged
 abbrev pub CountsIf : Geometry → List ℕ → Option Counts → Type 0
 CountsIf g image None = damaged_of g image ≡ []
 CountsIf g image (Some counts) = CountsOf g image counts
@@ -49,10 +49,10 @@ pub record IsGuess (g : Geometry) (image : List ℕ) (guess : Guess) : Type 0 wh
   pub stays : guess.given.damaged ≡ 0 → guess.meta ≡ g.meta
   pub least : (h : Geometry) → 0 < guess.given.damaged → SameBut g h → h.meta < guess.meta → length (table_of h image) < guess.best.whole
 
--- the same, or none where no id is damaged
+-- the guess, where an id is damaged; or none, where none is
 abbrev pub GuessIf : Geometry → List ℕ → Option Guess → Type 0
 GuessIf g image None = damaged_of g image ≡ []
-GuessIf g image (Some guess) = IsGuess g image guess
+GuessIf g image (Some guess) = IsGuess g image guess × (0 < guess.given.damaged)
 
 -- with lent bytes for a copy of each page, and where no fault was counted, the device was asked for no more reads than it has pages
 pub record ReadsOnce {D : Type 0} (nor : NorOf D) (g : Geometry) (cache : ℕ) (old new : D) : Type 0 where

@@ -129,8 +129,8 @@ pub fn count_files<N: Nor>(
     count_view(&mut v, marks)
 }
 
-/// The same, where an id is damaged: else the files aren't counted, and the answer is None.
-pub fn count_damaged_files<N: Nor>(
+/// The counts of `count_files`; or None: then no id is damaged, and the files weren't counted.
+pub(crate) fn count_if_damaged<N: Nor>(
     g: &Geometry,
     nor: &mut N,
     work: &mut [u8],

@@ -1,10 +1,10 @@
-ghost use Rattle.std.specs.Prelude.{◌≡◌, ◌*◌, ◌≤◌, length, nat_lt, OnErr, IfOk, None, if◌then◌else◌};
+ghost use Rattle.std.specs.Prelude.{◌≡◌, ◌*◌, ◌≤◌, length, nat_lt, OnErr, IfOk, IfSome, None, if◌then◌else◌};
 ghost use Rattle.geometry.specs.Numbers.{scratch_need, cache_need, check_need};
 ghost use Rattle.nor_core.specs.Count.{Rose};
 ghost use Rattle.nor_core.specs.Device.{OnlyReads};
 ghost use Rattle.meta_guess.specs.Guesses.{CountsBy, GuessIf, IsBest, IsGuess, IsMeta, ReadsOnce};
 
-use crate::counting::{count_damaged_files, count_files};
+use crate::counting::{count_if_damaged, count_files};
 use crate::counts::{Counts, Guess};
 use geometry::Geometry;
 use nor_core::{Failed, Nor, NorState};
@@ -117,8 +117,8 @@ pub fn guess_meta<N: Nor>(
     Ok(Guess { given, meta, best })
 }
 
-/// The same, where an id is damaged: else no other number can read more, the files aren't counted, and the answer is None.
-pub fn guess_damaged_meta<N: Nor>(
+/// The guess of `guess_meta`, where an id is damaged; or None: then none is, no other number can read more, and the files weren't counted.
+pub fn guess_if_damaged<N: Nor>(
     g: &Geometry,
     nor: &mut N,
     work: &mut [u8],
@@ -132,10 +132,11 @@ pub fn guess_damaged_meta<N: Nor>(
     requires check { check_need g.now ≤ length marks.old }
     ensures cause { OnErr result (Rose (N.faults nor.old) (N.faults nor.new)) }
     ensures reads { OnlyReads N.NorState nor.old nor.new }
+    ensures range { IfOk result (λ found. IfSome found (λ guess. guess.meta ≤ 64)) }
     ensures told { N.tells nor.old → IfOk result (GuessIf g.now (N.bytes nor.old)) }
-    ensures few { IfOk result (λ guess. guess ≡ None → ReadsOnce N.NorState g.now (length cache.old) nor.old nor.new) }
+    ensures few { IfOk result (λ found. found ≡ None → ReadsOnce N.NorState g.now (length cache.old) nor.old nor.new) }
 {
-    let Some(counts) = count_damaged_files(g, nor, work, cache, marks)? else {
+    let Some(counts) = count_if_damaged(g, nor, work, cache, marks)? else {
         return Ok(None);
     };
     if counts.damaged == 0 {

@@ -5,6 +5,6 @@ mod counting;
 mod counts;
 mod guessing;
 
-pub use counting::{count_damaged_files, count_files};
+pub use counting::count_files;
 pub use counts::{Counts, Guess};
-pub use guessing::{guess_damaged_meta, guess_meta, with_meta};
+pub use guessing::{guess_if_damaged, guess_meta, with_meta};

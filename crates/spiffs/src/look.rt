@@ -3,7 +3,7 @@ use crate::words::{foretells, word};
 use call_script::parse_number;
 use flash_view::View;
 use geometry::{Geometry, MagicKind};
-use meta_guess::{Guess, count_files, guess_damaged_meta};
+use meta_guess::{Guess, count_files, guess_if_damaged};
 use nor_core::{Failed, Nor};
 use std::fmt;
 use tool_parts::Buffers;
@@ -128,7 +128,7 @@ fn look_at<N: Nor>(
             better: None,
         }));
     }
-    let found = guess_damaged_meta(g, nor, lent.work, lent.cache, lent.check)?;
+    let found = guess_if_damaged(g, nor, lent.work, lent.cache, lent.check)?;
     Ok(Some(match found {
         Some(guess) => seen_by(g.meta(), guess, removes),
         None => Seen {

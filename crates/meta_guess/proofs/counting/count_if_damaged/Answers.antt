@@ -1,6 +1,6 @@
 use Rattle.std.proofs.Common.{rules}
 use Rattle.meta_guess.proofs.Reading.{reads_once, reads_as}
-use Rattle.meta_guess.proofs.counting.count_damaged_files.Goals as goal
+use Rattle.meta_guess.proofs.counting.count_if_damaged.Goals as goal
 
 pub returns-clause-few : goal.returns-clause-few
 returns-clause-few g c =
