@@ -33,7 +33,9 @@ returns-in_err-say_found-clause-says g c =
     said_broken c.args.found.now list r c.loop-i.i c.loop-i.last c.in-Some.next _ low (c.loop-i.invariant.said list r) c.in-Some.ensures c.say_found.ensures.says c.in_err-say_found.ensures.front)
 
 pub returns-in_err-say_found-clause-cause : goal.returns-in_err-say_found-clause-cause
-returns-in_err-say_found-clause-cause g c = omega (arith, c.loop-i.invariant.faults, c.in_err-say_found.ensures.cause)
+returns-in_err-say_found-clause-cause g c =
+    let is : c.from_residual.result ≡ Err c.in_err-say_found.field-0.0 = search rules in
+    rw is (omega (arith, c.loop-i.invariant.faults, c.in_err-say_found.ensures.cause))
 
 pub returns-clause-says : goal.returns-clause-says
 returns-clause-says g c = λ list r. said_all c.args.found.now list r c.loop-i.i c.loop-i.last (omega (arith, c.loop-i-test.false, c.loop-i.auto.i-end)) (c.loop-i.invariant.said list r)
