@@ -4,7 +4,7 @@ ghost use Rattle.nor_core.specs.Count.{Rose};
 ghost use Rattle.nor_core.specs.Device.{OnlyReads};
 ghost use Rattle.meta_guess.specs.Guesses.{CountsBy, GuessIf, IsBest, IsGuess, IsMeta, ReadsOnce};
 
-use crate::counting::{count_if_damaged, count_files};
+use crate::counting::{count_files, count_if_damaged};
 use crate::counts::{Counts, Guess};
 use geometry::Geometry;
 use nor_core::{Failed, Nor, NorState};
