@@ -65,7 +65,8 @@ end_cases page size at len e h = ⊎_elim
     (λ own. inr (inr (eqb-true e (at + len) own)))
     (or_cases ((e % page == 0) || (e == size)) (e == at + len) h)
 
-end_passes : (page size at len e : ℕ) → (e % page ≡ 0) ⊎ ((e ≡ size) ⊎ (e ≡ at + len)) → ((e % page == 0) || (e == size) || (e == at + len)) ≡ true
+-- a part has an end
+pub end_passes : (page size at len e : ℕ) → (e % page ≡ 0) ⊎ ((e ≡ size) ⊎ (e ≡ at + len)) → ((e % page == 0) || (e == size) || (e == at + len)) ≡ true
 end_passes page size at len e h = ⊎_elim
     (λ (page_end : e % page ≡ 0). or_left ((e % page == 0) || (e == size)) (e == at + len) (or_left (e % page == 0) (e == size) (eq-eqb (e % page) 0 page_end)))
     (λ (more : (e ≡ size) ⊎ (e ≡ at + len)). ⊎_elim

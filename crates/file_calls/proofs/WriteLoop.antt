@@ -3,7 +3,7 @@ use Rattle.std.proofs.Common.{◌≡◌, ℕ, zero, suc, ◌+◌, ◌-◌, ◌%�
 use Rattle.std.specs.Prelude.{Some, None, Result, Ok, Err, filter, slice_range}
 use Rattle.std.specs.List.{range_with_len}
 use Rattle.std.specs.Option.{option_map}
-use Rattle.std.proofs.lemmas.Bool.{cases_Bool, cases_lt, cases_eq, eq-eqb, or_left, or_right}
+use Rattle.std.proofs.lemmas.Bool.{cases_Bool, cases_lt, cases_eq}
 use Rattle.std.proofs.lemmas.List.{length-replicate, length-map, length-take-le, take-append-drop, append-nil, length-drop}
 use Rattle.nor_core.specs.declared.state.NorState.{Ghosts as NorOf}
 use Rattle.geometry.specs.declared.geometry.Geometry.{Geometry}
@@ -21,7 +21,7 @@ use Rattle.image_model.specs.Tidy.{IsTidy, HasReserve}
 use Rattle.image_laws.proofs.Sounding.{sound-on}
 use Rattle.room_laws.proofs.Staying.{reserve_mends}
 use Rattle.call_model.specs.Parts.{IsPartEnd}
-use Rattle.call_model.proofs.Parts.{steps-among, whole-table, written_next, put_twice}
+use Rattle.call_model.proofs.Parts.{end_passes, steps-among, whole-table, written_next, put_twice}
 use Rattle.call_model.proofs.Tables.{file_of-put, file_of-id}
 use Rattle.flash_view.specs.declared.view.View.{View}
 use Rattle.flash_view.specs.Same.{OnlyLooks}
@@ -153,21 +153,11 @@ chosen_more p a (suc n) (suc m) e low high passes =
     (λ (no : p a ≡ false). rw no rest)
     (cases_Bool (p a))
 
--- a part has an end
-is_end : (page size at len e : ℕ) → IsPartEnd page size at len e → ((e % page == 0) || (e == size) || (e == at + len)) ≡ true
-is_end page size at len e end = ⊎_elim
-    (λ (of_page : e % page ≡ 0). or_left ((e % page == 0) || (e == size)) (e == at + len) (or_left (e % page == 0) (e == size) (eq-eqb (e % page) 0 of_page)))
-    (λ (other : (e ≡ size) ⊎ (e ≡ at + len)). ⊎_elim
-    (λ (old : e ≡ size). or_left ((e % page == 0) || (e == size)) (e == at + len) (or_right (e % page == 0) (e == size) (eq-eqb e size old)))
-    (λ (own : e ≡ at + len). or_right ((e % page == 0) || (e == size)) (e == at + len) (eq-eqb e (at + len) own))
-    other)
-    end.ends
-
 ends_more : (page size at len from to : ℕ) → IsPart page size at len from to → length (ends_to page size at len from) + 1 ≤ length (ends_to page size at len to)
 ends_more page size at len from to part =
     let low = part.low in
     let some = part.some in
-    chosen_more (λ x. (x % page == 0) || (x == size) || (x == at + len)) (at + 1) (from - at) (to - at) to (omega (arith, low, some)) (omega (arith, low, some)) (is_end page size at len to part.is_end)
+    chosen_more (λ x. (x % page == 0) || (x == size) || (x == at + len)) (at + 1) (from - at) (to - at) to (omega (arith, low, some)) (omega (arith, low, some)) (end_passes page size at len to part.is_end.ends)
 
 -- those before a place are among all
 pub few_part : (g : Geometry) (a : List ℕ) (id page size at len to n : ℕ) → to ≤ at + len → IsFew (NeedsNoTail id size to g a) (length (ends_to page size at len to)) n → IsFew (NeedsNoTail id size (at + len) g a) (length (part_ends page size at len)) n

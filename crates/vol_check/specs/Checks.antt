@@ -8,10 +8,17 @@ use Rattle.image_model.specs.Kinds.{spoiled_blocks}
 use Rattle.image_model.specs.Killed.{killed_of}
 use Rattle.image_model.specs.Shared.{SameUses, shared_blocks, fits_over}
 use Rattle.room_laws.specs.Staged.{IsStripped}
+use Rattle.flash_view.specs.declared.kinds.StepErr.{StepErr}
+use Rattle.flash_view.specs.declared.kinds.StepErr.TheVariants.{DeviceFault as StepFault, Damaged as StepDamaged}
 use Rattle.vol_check.specs.declared.report.CheckErr.{CheckErr}
 use Rattle.vol_check.specs.declared.report.CheckErr.TheVariants.{Wrong, Mixed, DeviceFault, Damaged}
 use Rattle.vol_check.specs.declared.report.Report.{Report}
 use Rattle.vol_check.specs.MadeFresh.{count_after}
+
+-- how a step failed, as a check tells it
+abbrev pub as_check_err : StepErr → CheckErr
+as_check_err StepFault = DeviceFault
+as_check_err (StepDamaged d) = Damaged d
 
 -- a refusal of a volume whose numbers allow writing
 abbrev pub IsWritable : CheckErr → Type 0

@@ -1,6 +1,8 @@
 ghost use Rattle.std.specs.Prelude.{◌≡◌};
 ghost use Rattle.vol_check.specs.declared.report.CheckErr.{CheckErr};
+ghost use Rattle.vol_check.specs.Checks.{as_check_err};
 
+use flash_view::StepErr;
 use geometry::GeoErr;
 use nor_core::Failed;
 use table_model::Differ;
@@ -40,5 +42,17 @@ impl From<Failed> for CheckErr {
 
     fn from(_: Failed) -> CheckErr {
         CheckErr::DeviceFault
+    }
+}
+
+// How a check failed whose step did.
+impl From<StepErr> for CheckErr {
+    ghost from_gives = { λ step why. why ≡ as_check_err step };
+
+    fn from(step: StepErr) -> CheckErr {
+        match step {
+            StepErr::DeviceFault => CheckErr::DeviceFault,
+            StepErr::Damaged(differ) => CheckErr::Damaged(differ),
+        }
     }
 }

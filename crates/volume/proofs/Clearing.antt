@@ -1,17 +1,20 @@
 -- The cleaning after the stages of a check, and the errors of each.
-use Rattle.std.proofs.Common.{◌≡◌, ℕ, List, refl, sym, subst}
+use Rattle.std.proofs.Common.{◌≡◌, ℕ, List, refl, sym, ap, subst}
 use Rattle.std.specs.Prelude.{Result, Ok, Err, Option, Some, None, IfSome, IsErrOf}
 use Rattle.geometry.specs.declared.geometry.Geometry.{Geometry}
 use Rattle.geometry.specs.declared.error.GeoErr.{GeoErr}
+use Rattle.nor_core.specs.declared.state.NorState.{Ghosts as NorOf}
 use Rattle.image_model.specs.Tidy.{IsTidy, free_blocks}
 use Rattle.image_model.specs.Sound.{Keeps}
 use Rattle.flash_view.specs.declared.kinds.StepErr.{StepErr}
 use Rattle.flash_view.specs.declared.kinds.StepErr.TheVariants.{DeviceFault as StepFault, Damaged as StepDamaged}
-use Rattle.flash_view.specs.Steps.{Step, stopped}
+use Rattle.flash_view.specs.declared.view.View.{View}
+use Rattle.flash_view.specs.Steps.{Step, Stepped, stopped}
+use Rattle.flash_view.proofs.Stepped.{fails_as}
 use Rattle.vol_check.specs.declared.report.CheckErr.{CheckErr}
 use Rattle.vol_check.specs.declared.report.CheckErr.TheVariants.{Wrong, Mixed, DeviceFault, Damaged}
-use Rattle.vol_check.specs.Checks.{IsWritable, IsRefusal, IsOfStages, CountsMixed}
-use Rattle.volume.specs.Checking.{IsApart, IsUndamaged, as_check_err, MayStop, Cleared}
+use Rattle.vol_check.specs.Checks.{IsWritable, IsRefusal, IsOfStages, CountsMixed, as_check_err}
+use Rattle.volume.specs.Checking.{IsApart, IsUndamaged, MayStop, Cleared, check_stopped}
 use Rattle.file_calls.proofs.Going.{tidy_sound}
 
 -- ---- errors
@@ -44,6 +47,10 @@ stop_means (StepDamaged d) means = means
 pub stop_fault : (why : StepErr) → as_check_err why ≡ DeviceFault → why ≡ StepFault
 stop_fault StepFault e = refl
 stop_fault (StepDamaged d) e = absurd (cc)
+
+-- so a step that failed is a failed step of the check
+pub stops_as : {N T : Type 0} {nor : NorOf N} {old new : View N nor} {why : StepErr} {step : Step T} → Stepped stopped old new (Err why) step → Stepped check_stopped old new (Err (as_check_err why)) step
+stops_as {why = why} call = fails_as call (λ is. stop_fault why is) (λ is. ap as_check_err is) (stop_means why call.means) (λ tells need. record { needs = need; cut = λ c cut. cut })
 
 pub same_err : {T : Type 0} (v w : CheckErr) → IsErrOf {T = T} (Err v) w → v ≡ w
 same_err v w e = cc

@@ -21,6 +21,9 @@ use Rattle.image_model.specs.Tidy.{IsTidy}
 use Rattle.image_model.specs.Live.{live_at, own}
 use Rattle.image_model.specs.Files.{index_page}
 use Rattle.flash_view.specs.Found.{has_header}
+use Rattle.flash_view.specs.declared.kinds.StepErr.{StepErr}
+use Rattle.flash_view.specs.declared.kinds.StepErr.TheVariants.{DeviceFault as StepFault, Damaged as StepDamaged}
+use Rattle.flash_view.specs.Steps.{as_fs_err}
 use Rattle.header_laws.proofs.HeadPages.{has-ids}
 use Rattle.header_laws.proofs.Listed.{any-found}
 use Rattle.table_model.specs.Table.{Open}
@@ -37,6 +40,7 @@ use Rattle.call_model.specs.Memory.{Memory, IsAt, OpensFiles}
 use Rattle.call_model.specs.Calls.{Stands}
 use Rattle.ix_map.specs.declared.map.IxMap.{IxMap}
 use Rattle.file_read.specs.Whole.{IsFileOf, IsRead}
+use Rattle.file_read.specs.Missing.{IsMissing, HoldsOrFault}
 use Rattle.ix_map.specs.Covers.{given, pages_met}
 use Rattle.file_calls.proofs.Descriptors.{whole_file}
 use Rattle.volume.specs.declared.stage.Stage.{Stage}
@@ -108,6 +112,18 @@ fault_no_page d e = cc
 
 failed_no_page : (d : Differ) → Failed ≡ Damaged d → ⊥
 failed_no_page d e = cc
+
+-- a step that failed fails the read through a map: what holds but for a fault
+pub fault_gives : (P : ℕ → Type 0) (why : StepErr) → HoldsOrFault (Err why) P → GivesOrFault (Err (Call (as_fs_err why))) P
+fault_gives P StepFault told = tt
+fault_gives P (StepDamaged differ) told = absurd told
+
+-- and the page that was wanted and the one that was found differ
+pub missing_apart : (id : ℕ) (why : StepErr) → IsMissing id why → (d : Differ) → why_not {T = ℕ} (Err (Call (as_fs_err why))) ≡ Some (Call (Damaged d)) → d.wanted ≢ d.found
+missing_apart id StepFault missing d e = absurd (cc)
+missing_apart id (StepDamaged differ) missing d e =
+    let same : differ ≡ d = cc in
+    subst (λ (x : Differ). x.wanted ≢ x.found) same missing.apart
 
 pub descriptor_no_page : (d : Differ) → BadDescriptor ≡ Damaged d → ⊥
 descriptor_no_page d e = cc

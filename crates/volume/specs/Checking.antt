@@ -18,8 +18,6 @@ use Rattle.room_laws.specs.Recovery.{Recovers}
 use Rattle.room_laws.specs.Staged.{IsStripped}
 use Rattle.block_gc.specs.RoomMade.{SweptTo, NoneIs}
 use Rattle.block_gc.specs.Partings.{PartCut, Parted}
-use Rattle.flash_view.specs.declared.kinds.StepErr.{StepErr}
-use Rattle.flash_view.specs.declared.kinds.StepErr.TheVariants.{DeviceFault as StepFault, Damaged as StepDamaged}
 use Rattle.flash_view.specs.declared.view.View.{View}
 use Rattle.flash_view.specs.Same.{OnlyLooks}
 use Rattle.trim_laws.specs.Wear.{Worn}
@@ -120,11 +118,6 @@ pub record Judges {N : Type 0} {nor : NorOf N} (old new : View N nor) (result : 
   pub mixed : nor.tells old.nor.now → IfErr result (CountsMixed old.geometry (nor.bytes old.nor.now))
 
 -- ---- the cleaning
-
--- how the cleaning failed, as a check tells it
-abbrev pub as_check_err : StepErr → CheckErr
-as_check_err StepFault = DeviceFault
-as_check_err (StepDamaged d) = Damaged d
 
 -- why the cleaning is not done: the device failed, or a page reads otherwise
 abbrev pub MayStop : CheckErr → Type 0

@@ -8,23 +8,13 @@ ghost use Rattle.image_model.specs.Tidy.{IsTidy};
 ghost use Rattle.flash_view.specs.Same.{IsSameView, OnlyCounts};
 ghost use Rattle.flash_view.specs.Steps.{Stepped};
 ghost use Rattle.block_gc.specs.Partings.{parting};
-ghost use Rattle.volume.specs.Checking.{ChecksVolume, Judges, as_check_err, check_stopped, sweeping, clearing, dividing, finishing};
+ghost use Rattle.volume.specs.Checking.{ChecksVolume, Judges, check_stopped, sweeping, clearing, dividing, finishing};
 
 use block_gc::{RoomErr, make_room, part_mixed};
-use flash_view::{StepErr, View};
+use flash_view::View;
 use free_search::{count_all, free_blocks};
 use nor_core::{Nor, NorState};
 use vol_check::{CheckErr, Parting, Report, check_stages, judge_parting};
-
-// How a check failed whose cleaning did.
-fn check_err(why: StepErr) -> CheckErr
-    ensures { result ≡ as_check_err why }
-{
-    match why {
-        StepErr::DeviceFault => CheckErr::DeviceFault,
-        StepErr::Damaged(differ) => CheckErr::Damaged(differ),
-    }
-}
 
 // Cleans blocks until two are free or none that is worth cleaning can be cleaned any more.
 fn sweep<N: Nor>(v: &mut View<'_, N>) -> Result<(), CheckErr>
@@ -33,7 +23,7 @@ fn sweep<N: Nor>(v: &mut View<'_, N>) -> Result<(), CheckErr>
     match make_room(v, 0, 0) {
         Ok(()) => Ok(()),
         Err(RoomErr::Tight) => Ok(()),
-        Err(RoomErr::Step(why)) => Err(check_err(why)),
+        Err(RoomErr::Step(why)) => Err(CheckErr::from(why)),
     }
 }
 
@@ -64,10 +54,7 @@ fn judge<N: Nor>(v: &mut View<'_, N>, marks: &mut [u8]) -> Result<bool, CheckErr
 fn part<N: Nor>(v: &mut View<'_, N>) -> Result<(), CheckErr>
     ensures { Stepped check_stopped v.old v.new result parting }
 {
-    match part_mixed(v) {
-        Ok(()) => Ok(()),
-        Err(why) => Err(check_err(why)),
-    }
+    Ok(part_mixed(v)?)
 }
 
 // Parts the shared blocks, where there are some, and tells how many blocks are free then: so many are before.

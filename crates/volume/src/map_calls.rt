@@ -52,6 +52,17 @@ impl From<FsErr> for MapErr {
     }
 }
 
+impl From<StepErr> for MapErr {
+    ghost use Rattle.flash_view.specs.Steps.{as_fs_err};
+    ghost use Rattle.volume.specs.declared.map_calls.MapErr.{MapErr};
+
+    ghost from_gives = { λ step why. why ≡ MapErr.Call (as_fs_err step) };
+
+    fn from(step: StepErr) -> MapErr {
+        MapErr::Call(FsErr::from(step))
+    }
+}
+
 impl MapErr {
     ghost use Rattle.std.specs.Prelude.{◌≡◌};
     ghost use Rattle.volume.specs.MapReads.{map_number};
@@ -315,7 +326,7 @@ impl<'b, N: Nor> Volume<'b, N> {
         }
         let work = &mut *self.work;
         let (work, rows) = work.split_at_mut(g.scratch_need() as usize);
-        match read_on(
+        let count = read_on(
             g,
             self.nor,
             work,
@@ -326,11 +337,8 @@ impl<'b, N: Nor> Volume<'b, N> {
             numbers,
             at,
             into,
-        ) {
-            Ok(count) => Ok(count),
-            Err(StepErr::DeviceFault) => Err(MapErr::Call(FsErr::DeviceFault)),
-            Err(StepErr::Damaged(differ)) => Err(MapErr::Call(FsErr::Damaged(differ))),
-        }
+        )?;
+        Ok(count)
     }
 
     /// Reads bytes of the mapped file from byte `at` on, as many as there are and fit, and answers their number; none at the file's end

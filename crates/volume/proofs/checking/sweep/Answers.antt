@@ -3,7 +3,7 @@ use Rattle.nor_core.proofs.Cuts.{wider}
 use Rattle.trim_laws.proofs.Wears.{cuts_whole}
 use Rattle.block_gc.specs.declared.room.RoomErr.{RoomErr}
 use Rattle.block_gc.specs.declared.room.RoomErr.TheVariants.{Step}
-use Rattle.volume.specs.Checking.{as_check_err}
+use Rattle.vol_check.specs.Checks.{as_check_err}
 use Rattle.block_gc.proofs.Cleanings.{none_more, reserve_ready}
 use Rattle.file_calls.proofs.GcCalls.{step_fault}
 use Rattle.volume.proofs.Clearing.{stop_means, stop_fault, same_err}
@@ -43,7 +43,7 @@ returns-in-Err-Step g c =
     let failed = c.in-Err-Step.ensures in
     let why = c.in-Err-Step.why in
     let is = c.in-Err-Step.field-0-is in
-    rw c.check_err.ensures (record {
+    rw c.from.ensures (record {
       framed = record { same = failed.same; wrote = failed.wrote; untouched = failed.untouched };
       cause = λ fault. failed.cause (ap (λ (w : RoomErr). Err w) (is ∙ ap Step (stop_fault why (same_err (as_check_err why) _ fault))));
       means = stop_means why (rw is at failed.differs);

@@ -1,15 +1,16 @@
-use Rattle.std.proofs.Common.{◌≡◌, ◌≢◌, subst}
-use Rattle.table_model.specs.declared.error.Differ.{Differ}
+use Rattle.std.proofs.lemmas.Result.{err_from_is_err_and}
+use Rattle.volume.proofs.MapCalls.{fault_gives, missing_apart}
 use Rattle.volume.proofs.volume.Volume.read_settled.Goals as goal
 
-pub returns-in-Ok-clause-told : goal.returns-in-Ok-clause-told
-returns-in-Ok-clause-told g c = λ tells f file used covered. rw c.in-Ok.is at (c.read_on.ensures.told tells f (c.args.self.now.mapped used tells) file)
+pub returns-clause-told : goal.returns-clause-told
+returns-clause-told g c = λ tells f file used covered. c.in_ok-count.ensures.told tells f (c.args.self.now.mapped used tells) file
 
-pub returns-in-Err-Damaged-clause-told : goal.returns-in-Err-Damaged-clause-told
-returns-in-Err-Damaged-clause-told g c = λ tells f file used covered. rw (c.in-Err-Damaged.is, c.in-Err-Damaged.field-0-is) at (c.read_on.ensures.told tells f (c.args.self.now.mapped used tells) file)
+pub returns-in_err-count-clause-told : goal.returns-in_err-count-clause-told
+returns-in_err-count-clause-told g c = λ tells f file used covered.
+    let p = err_from_is_err_and c.from_residual.result c.from_residual.ensures.1 in
+    rw (p.1, p.2) (fault_gives _ _ (c.in_err-count.ensures.told tells f (c.args.self.now.mapped used tells) file))
 
-pub returns-in-Err-Damaged-clause-differs : goal.returns-in-Err-Damaged-clause-differs
-returns-in-Err-Damaged-clause-differs g c = λ d e.
-    let missing = rw (c.in-Err-Damaged.is, c.in-Err-Damaged.field-0-is) at c.read_on.ensures.missing in
-    let same : c.in-Err-Damaged.differ ≡ d = cc in
-    subst (λ (x : Differ). x.wanted ≢ x.found) same missing.apart
+pub returns-in_err-count-clause-differs : goal.returns-in_err-count-clause-differs
+returns-in_err-count-clause-differs g c = λ d e.
+    let p = err_from_is_err_and c.from_residual.result c.from_residual.ensures.1 in
+    missing_apart _ _ c.in_err-count.ensures.missing d (rw (p.1, p.2) at e)
