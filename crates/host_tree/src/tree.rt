@@ -226,6 +226,8 @@ impl<R: Files + Drop> Files for TreeFiles<R> {
 
     type Dir = Names;
 
+    // The path is the name of an entry, as `open_dir` lists it: a new file's path on the host is made from it, that of a file which is
+    // there was found when the folder was listed.
     fn open_file(&self, how: &OpenOptions, path: &str) -> io::Result<R::File> {
         if how.asks_create_new() {
             self.make(how, path)
