@@ -1,7 +1,8 @@
--- No page has the mark of a file that is damaged: no id is.
-use Rattle.std.proofs.Common.{◌≡◌, ◌≢◌, ℕ, ◌<◌, List, [], Option, Some, None, sym, refl}
+-- No page has the mark of a file that is damaged exactly where no id is damaged.
+use Rattle.std.proofs.Common.{◌≡◌, ◌≢◌, ℕ, ◌<◌, ◌≤◌, List, [], Option, Some, None, sym, ◌∙◌, refl, arith}
 use Rattle.std.specs.Prelude.{slice_index}
 use Rattle.std.specs.Option.{option_map}
+use Rattle.std.proofs.lemmas.Bool.{lt-ltb}
 use Rattle.std.proofs.lemmas.Option.{none-some}
 use Rattle.geometry.specs.declared.geometry.Geometry.{Geometry}
 use Rattle.geometry.specs.Numbers.{page_count}
@@ -9,11 +10,14 @@ use Rattle.image_model.specs.declared.damage.Damage.{Damage}
 use Rattle.image_model.specs.Live.{live_at, own}
 use Rattle.image_model.specs.Files.{index_page}
 use Rattle.image_model.specs.Tables.{has_of, damage, damages, damaged_of}
+use Rattle.image_laws.proofs.Records.{filter_map-nil}
 use Rattle.image_laws.proofs.Undamaged.{filter_map-none}
-use Rattle.file_find.specs.Marks.{IsMarked, cause_at}
-use Rattle.file_find.proofs.Heads.{header_parts}
-use Rattle.file_find.proofs.Holders.{cause_other}
-use Rattle.file_find.proofs.Marking.{has_none}
+use Rattle.flash_view.specs.Found.{headed}
+use Rattle.file_find.specs.Marks.{IsMarked, cause_at, mark_of}
+use Rattle.file_find.proofs.Heads.{header_parts, mark_head}
+use Rattle.file_find.proofs.Holders.{cause_other, unlisted_some}
+use Rattle.file_find.proofs.Marking.{has_none, mark_none}
+use Rattle.file_find.proofs.Wholes.{head_within}
 
 no_cause : (o : Option (ℕ × Damage)) → option_map (λ (d : ℕ × Damage). d.1) o ≡ None → o ≡ None
 no_cause None e = refl
@@ -34,3 +38,23 @@ module _ (g : Geometry) (image marks : List ℕ) (marked : IsMarked g image mark
   unfolding damaged_of damages
   none_damaged = filter_map-none (λ (id : ℕ). damage (has_of g (live_at g image)) 0x7FFF id (has_of g (live_at g image) id)) 1 0x7FFF
       (λ id low high. none_by id (index_page g (own (live_at g image) id) 0) refl)
+
+-- the other way: no id is damaged, so no page has the mark of one that is
+module _ (g : Geometry) (image marks : List ℕ) (marked : IsMarked g image marks) (undamaged : damaged_of g image ≡ []) where
+  -- an id of a file has no cause
+  no_cause_at : (id : ℕ) → 1 ≤ id → id ≤ 0x7FFF → cause_at g image id ≡ None
+  unfolding cause_at damaged_of damages
+  no_cause_at id low high =
+      rw (filter_map-nil (λ (j : ℕ). damage (has_of g (live_at g image)) 0x7FFF j (has_of g (live_at g image) j)) 1 0x7FFF undamaged id low (omega (arith, high))) refl
+
+  -- a page that is no header page has the mark 0, and one that is has that of a file of the table
+  harmless_by : (p mark : ℕ) (o : Option ℕ) → headed (live_at g image p) ≡ o → mark ≡ mark_of g image p → mark ≢ 0 → mark < 3 → ⊥
+  harmless_by p mark None at is some few = some (is ∙ sym (mark_none g image p (sym at)))
+  harmless_by p mark (Some id) at is some few =
+      let within = head_within g image p id at in
+      let first = mark_head g image p id at (λ z. some (is ∙ z)) in
+      let cause = unlisted_some g image id p mark first is (rw (lt-ltb mark 3 few) refl) in
+      none-some cause.0 (sym (no_cause_at id within.0 within.1) ∙ sym cause.1)
+
+  pub harmless : (mark : ℕ) → mark ≢ 0 → mark < 3 → (p : ℕ) → p < page_count g → slice_index marks p ≢ mark
+  harmless mark some few p low is = harmless_by p mark (headed (live_at g image p)) refl (sym is ∙ marked.each p low) some few

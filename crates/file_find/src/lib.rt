@@ -5,10 +5,10 @@ mod ids;
 mod judging;
 mod listing;
 mod marks;
-mod sound;
+mod no_damage;
 mod windows;
 
 pub use judging::judge;
 pub use listing::{find_file, next_damaged, next_file};
 pub use marks::{damage, find_name, next_marked, next_with, survey};
-pub use sound::is_sound;
+pub use no_damage::none_damaged;

@@ -12,7 +12,7 @@ ghost use Rattle.image_tool.specs.Saying.{OnlySays, SaysFront};
 use crate::damaged::say_next_damaged;
 use crate::error::ToolErr;
 use crate::records::say_next_record;
-use file_find::{is_sound, survey};
+use file_find::{none_damaged, survey};
 use flash_view::View;
 use nor_core::{Board, Failed, NorState};
 
@@ -99,7 +99,7 @@ fn list_damaged<B: Board>(v: &mut View<'_, B>, marks: &[u8], line: &mut [u8]) ->
     ensures front { B.tells v.old.nor.now →
         OnErr result (SaysFront B.NorState v.old.nor.now v.new.nor.now (text_of Part.Damaged v.old.geometry (B.bytes v.old.nor.now))) }
 {
-    if is_sound(v, marks) {
+    if none_damaged(v, marks) {
         return Ok(0);
     }
     list_part(v, marks, Part::Damaged, line)

@@ -8,7 +8,7 @@ ghost use Rattle.file_find.specs.Marks.{IsMarked};
 ghost use Rattle.meta_guess.specs.Guesses.{CountsOf, CountsIf, ReadsOnce};
 
 use crate::counts::Counts;
-use file_find::{is_sound, next_damaged, next_file, survey};
+use file_find::{next_damaged, next_file, none_damaged, survey};
 use flash_view::View;
 use geometry::Geometry;
 use nor_core::{Failed, Nor, NorState};
@@ -40,7 +40,7 @@ fn count_damaged<N: Nor>(v: &mut View<'_, N>, marks: &[u8]) -> Result<u32, Faile
     ensures looks { OnlyLooks v.old v.new }
     ensures told { N.tells v.old.nor.now → IfOk result (λ count. count ≡ length (damaged_of v.old.geometry (N.bytes v.old.nor.now))) }
 {
-    if is_sound(v, marks) {
+    if none_damaged(v, marks) {
         return Ok(0);
     }
     let mut after = 0;
@@ -75,7 +75,7 @@ fn count_marked_if<N: Nor>(v: &mut View<'_, N>, marks: &[u8]) -> Result<Option<C
     ensures looks { OnlyLooks v.old v.new }
     ensures told { N.tells v.old.nor.now → IfOk result (CountsIf v.old.geometry (N.bytes v.old.nor.now)) }
 {
-    if is_sound(v, marks) {
+    if none_damaged(v, marks) {
         return Ok(None);
     }
     Ok(Some(count_marked(v, marks)?))

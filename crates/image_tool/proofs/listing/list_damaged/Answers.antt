@@ -11,19 +11,19 @@ use Rattle.image_tool.proofs.Speaking.{says_none}
 use Rattle.flash_view.proofs.Looking.{same_none}
 use Rattle.image_tool.proofs.listing.list_damaged.Goals as goal
 
-pub returns-then-is_sound-clause-says : goal.returns-then-is_sound-clause-says
-returns-then-is_sound-clause-says g c = says_none _ (reads_none c.args.v.now.nor.now)
+pub returns-then-none_damaged-clause-says : goal.returns-then-none_damaged-clause-says
+returns-then-none_damaged-clause-says g c = says_none _ (reads_none c.args.v.now.nor.now)
 
-pub returns-then-is_sound-clause-count : goal.returns-then-is_sound-clause-count
-returns-then-is_sound-clause-count g c = λ tells.
+pub returns-then-none_damaged-clause-count : goal.returns-then-none_damaged-clause-count
+returns-then-none_damaged-clause-count g c = λ tells.
     let v = c.args.v.now in
-    sym (damages_many v.geometry (g.B.NorState.bytes v.nor.now) ∙ ap (λ (ds : List (ℕ × Damage)). length ds) (c.is_sound.ensures tells c.if-is_sound.true))
+    sym (damages_many v.geometry (g.B.NorState.bytes v.nor.now) ∙ ap (λ (ds : List (ℕ × Damage)). length ds) ((c.none_damaged.ensures tells).0 c.if-none_damaged.true))
 
-pub returns-then-is_sound-clause-whole : goal.returns-then-is_sound-clause-whole
-returns-then-is_sound-clause-whole g c = λ tells.
+pub returns-then-none_damaged-clause-whole : goal.returns-then-none_damaged-clause-whole
+returns-then-none_damaged-clause-whole g c = λ tells.
     let v = c.args.v.now in
     let image = g.B.NorState.bytes v.nor.now in
-    sym (append-nil (g.B.NorState.said v.nor.now)) ∙ ap (λ (l : List ℕ). g.B.NorState.said v.nor.now ++ l) (sym (no_damages_text v.geometry image (c.is_sound.ensures tells c.if-is_sound.true)))
+    sym (append-nil (g.B.NorState.said v.nor.now)) ∙ ap (λ (l : List ℕ). g.B.NorState.said v.nor.now ++ l) (sym (no_damages_text v.geometry image ((c.none_damaged.ensures tells).0 c.if-none_damaged.true)))
 
-pub returns-then-is_sound-clause-same : goal.returns-then-is_sound-clause-same
-returns-then-is_sound-clause-same g c = same_none c.args.v.now
+pub returns-then-none_damaged-clause-same : goal.returns-then-none_damaged-clause-same
+returns-then-none_damaged-clause-same g c = same_none c.args.v.now

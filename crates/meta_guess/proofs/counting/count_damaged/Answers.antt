@@ -38,5 +38,5 @@ returns-clause-told g c = λ tells.
 pub returns-clause-looks : goal.returns-clause-looks
 returns-clause-looks g c = looks_then c.ids.invariant.looks c.in_ok-next.ensures.looks
 
-pub returns-then-is_sound-clause-told : goal.returns-then-is_sound-clause-told
-returns-then-is_sound-clause-told g c = λ tells. sym (ap (λ (ds : List (ℕ × Damage)). length ds) (c.is_sound.ensures tells c.if-is_sound.true))
+pub returns-then-none_damaged-clause-told : goal.returns-then-none_damaged-clause-told
+returns-then-none_damaged-clause-told g c = λ tells. sym (ap (λ (ds : List (ℕ × Damage)). length ds) ((c.none_damaged.ensures tells).0 c.if-none_damaged.true))
