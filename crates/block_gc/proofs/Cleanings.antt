@@ -1,5 +1,5 @@
 -- Cleaning block after block, over plain images.
-use Rattle.std.proofs.Common.{◌≡◌, ℕ, ◌+◌, ◌-◌, ◌<◌, ◌^◌, List, [], ◌∷◌, ◌++◌, length, map, Bool, true, false, Some, None, Result, refl, sym, ◌∙◌, subst, arith, length-append}
+use Rattle.std.proofs.Common.{◌≡◌, ℕ, ◌+◌, ◌-◌, ◌<◌, ◌≤◌, ◌^◌, List, [], ◌∷◌, ◌++◌, length, map, Bool, true, false, Some, None, Result, refl, sym, ◌∙◌, subst, arith, length-append}
 use Rattle.std.specs.List.{Contains}
 use Rattle.std.proofs.lemmas.Bool.{le-leb}
 use Rattle.std.proofs.lemmas.Option.{same_Some}
@@ -23,7 +23,7 @@ use Rattle.image_laws.proofs.SpareKill.{tidy-has_magics}
 use Rattle.image_laws.proofs.TidySteps.{tidy-is_tidy}
 use Rattle.trim_laws.specs.Wear.{IsRenewed}
 use Rattle.flash_view.specs.Steps.{Step, Errors, Stepped, Begins, Finishes}
-use Rattle.room_laws.specs.Stopping.{CanClean, HasRoomFor}
+use Rattle.room_laws.specs.Stopping.{gc_measure, CanClean, HasRoomFor}
 use Rattle.room_laws.specs.Mends.{CanMend}
 use Rattle.room_laws.proofs.Chosen.{chosen_is_candidate}
 use Rattle.room_laws.proofs.CleanedImages.{has_cleaned_can_clean, has_cleaned_is_lower, has_cleaned_mends, has_cleaned_is_swept}
@@ -176,6 +176,10 @@ needed_on g goal n a b c first second unmet =
 pub cleanings_few : (g : Geometry) (n : ℕ) (a b : List ℕ) → IsTidy g a → Cleanings g n a b → n < 2 ^ 64 - 1
 cleanings_few g n a b t so_far = let small = measure_is_small g a t in let lower = so_far.lower in omega (arith, small, lower)
 
+-- each swept step lowered that number
+lower_by : (g : Geometry) (n : ℕ) (a b : List ℕ) (all : Cleanings g n a b) → gc_measure g b + length all.swept.through ≤ gc_measure g a
+lower_by g n a b all = let p = all.count in let q = all.lower in omega (arith, p, q)
+
 -- ---- where collection stops
 
 -- an image that was cleaned so often has its reserve where no block is chosen, if the first had
@@ -183,13 +187,14 @@ pub keeps_reserve : (g : Geometry) (n : ℕ) (a b : List ℕ) → IsImage g a �
 keeps_reserve g n a b is t all none reserve = stopped_has_reserve g b (all.again (reserve_can_clean g a is t reserve)) none
 
 pub made_room : (g : Geometry) (i d : ℕ) (a b : List ℕ) → Collected g (Pages i d) true a b → MadeRoom g i d a b
-made_room g i d a b all = record { tidy = all.cleanings.tidy; table = all.cleanings.table; swept = all.cleanings.swept; needed = all.needed; ready = all.stops; tails = all.cleanings.tails }
+made_room g i d a b all = record { tidy = all.cleanings.tidy; table = all.cleanings.table; swept = all.cleanings.swept; lower = lower_by g all.n a b all.cleanings; needed = all.needed; ready = all.stops; tails = all.cleanings.tails }
 
 pub is_tight : (g : Geometry) (i d : ℕ) (a b : List ℕ) → IsImage g a → IsTidy g a → Collected g (Pages i d) false a b → IsTight g i d a b
 is_tight g i d a b is t all = record {
   tidy = all.cleanings.tidy;
   table = all.cleanings.table;
   swept = all.cleanings.swept;
+  lower = lower_by g all.n a b all.cleanings;
   needed = all.needed;
   none = all.stops.0;
   short = all.stops.1;
@@ -239,6 +244,7 @@ module _ (g : Geometry) (met : Bool) (a b : List ℕ) (is : IsImage g a) (t : Is
         tidy = there;
         table = all.cleanings.table;
         swept = all.cleanings.swept;
+        lower = lower_by g all.n a b all.cleanings;
         worth = λ block low. unstuck_has_no_worth g b block there stopped free low;
         packed = packed;
         free = let all' = (blocks-split g b now).0 in let index = packed.index in let pages = packed.pages in omega (arith, all', index, pages);
@@ -252,6 +258,7 @@ module _ (g : Geometry) (met : Bool) (a b : List ℕ) (is : IsImage g a) (t : Is
     tidy = all.cleanings.tidy;
     table = all.cleanings.table;
     swept = all.cleanings.swept;
+    lower = lower_by g all.n a b all.cleanings;
     none = stopped;
     stuck = stuck;
     again = all.cleanings.again;

@@ -97,22 +97,25 @@ abbrev pub CleanedOrNone : Geometry → Bool → (was now : List ℕ) → Type 0
 CleanedOrNone g true was now = Cleanings g 1 was now
 CleanedOrNone g false was now = (chosen_block g was ≡ None) × (now ≡ was)
 
--- The image is tidy with its table, so many pages of each kind are had, and two blocks are free. Each cleaning began where that wasn't so.
--- Tails that were ready are so still.
+-- The image is tidy with its table, so many pages of each kind are had, and two blocks are free. Each cleaning began where that wasn't so, and
+-- lowered the number that cleanings lower. Tails that were ready are so still.
 pub record MadeRoom (g : Geometry) (index pages : ℕ) (was now : List ℕ) : Type 0 where
   pub tidy : IsTidy g now
   pub table : table_of g now ≡ table_of g was
   pub swept : SweptTo g was now
+  pub lower : gc_measure g now + length swept.through ≤ gc_measure g was
   pub needed : NoneIs (λ image. IsReady g image index pages) swept.through
   pub ready : IsReady g now index pages
   pub tails : KeepsTails g was now
 
 -- The image is tidy with its table, no block is chosen, and the pages aren't had or fewer than two blocks are free, as where each cleaning began.
--- It can be cleaned where the first could, and has its reserve where the first had. Tails that were ready are so still.
+-- Each has lowered the number that cleanings lower. It can be cleaned where the first could, and has its reserve where the first had. Tails that
+-- were ready are so still.
 pub record IsTight (g : Geometry) (index pages : ℕ) (was now : List ℕ) : Type 0 where
   pub tidy : IsTidy g now
   pub table : table_of g now ≡ table_of g was
   pub swept : SweptTo g was now
+  pub lower : gc_measure g now + length swept.through ≤ gc_measure g was
   pub needed : NoneIs (λ image. IsReady g image index pages) swept.through
   pub none : chosen_block g now ≡ None
   pub short : IsReady g now index pages → ⊥
@@ -121,11 +124,12 @@ pub record IsTight (g : Geometry) (index pages : ℕ) (was now : List ℕ) : Typ
   pub tails : KeepsTails g was now
 
 -- The image is tidy with its table, and packed: no block is worth cleaning, and all blocks are free but those that the pages of each kind need.
--- It has its reserve where the first had. Tails that were ready are so still.
+-- Each cleaning lowered the number that cleanings lower. It has its reserve where the first had. Tails that were ready are so still.
 pub record IsCompact (g : Geometry) (was now : List ℕ) : Type 0 where
   pub tidy : IsTidy g now
   pub table : table_of g now ≡ table_of g was
   pub swept : SweptTo g was now
+  pub lower : gc_measure g now + length swept.through ≤ gc_measure g was
   pub worth : (block : ℕ) → block < g.blocks → is_worth g now block ≡ false
   pub packed : IsPacked g now
   pub free : free_blocks g now + ceil (index_count g (table_of g now)) (entries g) + ceil (data_count g (table_of g now)) (entries g) ≡ g.blocks
@@ -133,12 +137,13 @@ pub record IsCompact (g : Geometry) (was now : List ℕ) : Type 0 where
   pub reserve : HasReserve g was → HasReserve g now
   pub tails : KeepsTails g was now
 
--- The image is tidy with its table, and collection is stuck. It can be cleaned where the first could, and has its reserve where the first had.
--- Tails that were ready are so still.
+-- The image is tidy with its table, and collection is stuck. Each cleaning lowered the number that cleanings lower. It can be cleaned where the
+-- first could, and has its reserve where the first had. Tails that were ready are so still.
 pub record IsStuck (g : Geometry) (was now : List ℕ) : Type 0 where
   pub tidy : IsTidy g now
   pub table : table_of g now ≡ table_of g was
   pub swept : SweptTo g was now
+  pub lower : gc_measure g now + length swept.through ≤ gc_measure g was
   pub none : chosen_block g now ≡ None
   pub stuck : is_stuck g now ≡ true
   pub again : CanClean g was → CanClean g now

@@ -20,8 +20,8 @@ use Rattle.file_calls.specs.Cleans.{SweptFor, LeavesBlocks, CleansFor, Taken}
 -- ---- steps that clean no block
 
 -- two free blocks stay free in a step, and no block is made fresh
-abbrev pub StaysSpare : {T : Type 0} → Step T → Type 0
-StaysSpare step = (g : Geometry) (was image : List ℕ) → step.cut g was image → LeavesBlocks g was image
+abbrev pub LeavesBlocksBy : {T : Type 0} → Step T → Type 0
+LeavesBlocksBy step = (g : Geometry) (was image : List ℕ) → step.cut g was image → LeavesBlocks g was image
 
 pub leaves_none : (g : Geometry) (a : List ℕ) → LeavesBlocks g a a
 leaves_none g a = record { reserve = λ two. two; wear = wear_none g a }
@@ -42,14 +42,14 @@ remove_leaves cut = record { reserve = λ two. let free = cut.free in omega (ari
 -- nothing was cleaned
 pub swept_none : (g : Geometry) (index pages : ℕ) (image : List ℕ) → SweptFor g index pages image image
 unfolding SweptAlong NoneIs
-swept_none g index pages image = record { swept = record { through = []; steps = refl }; needed = tt }
+swept_none g index pages image = record { swept = record { through = []; steps = refl }; few = omega arith; needed = tt }
 
 -- ---- over a device
 
 module _ {D : Type 0} {nor : NorOf D} {g : Geometry} {index pages : ℕ} where
   -- broken off where another is
   pub cleans_as : {old new : D} {P Q : Type 0} → (P → Q) → CleansFor nor g index pages old new P → CleansFor nor g index pages old new Q
-  cleans_as on call = record { mid = call.mid; first = call.first; idle = call.idle; needed = λ whole. call.needed (λ p. whole (on p)); rest = call.rest }
+  cleans_as on call = record { mid = call.mid; first = call.first; idle = call.idle; needed = λ whole. call.needed (λ p. whole (on p)); rest = call.rest; none = call.none }
 
   -- after reads
   pub cleans_after : {old mid new : D} {P : Type 0} → OnlyReads nor old mid → CleansFor nor g index pages mid new P → CleansFor nor g index pages old new P
@@ -59,11 +59,12 @@ module _ {D : Type 0} {nor : NorOf D} {g : Geometry} {index pages : ℕ} where
     idle = λ ready. reads_then reads (call.idle (subst (λ (l : List ℕ). IsReady g l index pages) (sym reads.bytes) ready));
     needed = λ whole. subst (λ (l : List ℕ). SweptFor g index pages l (nor.bytes call.mid)) reads.bytes (call.needed whole);
     rest = call.rest;
+    none = λ no_index no_pages. after_reads reads (call.none no_index no_pages);
   }
 
   -- and before reads
   pub cleans_read : {old mid new : D} {P : Type 0} → CleansFor nor g index pages old mid P → OnlyReads nor mid new → CleansFor nor g index pages old new P
-  cleans_read call reads = record { mid = call.mid; first = call.first; idle = call.idle; needed = call.needed; rest = read_after call.rest reads }
+  cleans_read call reads = record { mid = call.mid; first = call.first; idle = call.idle; needed = call.needed; rest = read_after call.rest reads; none = λ no_index no_pages. read_after (call.none no_index no_pages) reads }
 
   -- nothing is cleaned
   pub cleans_none : {old new : D} {P : Type 0} → RoomCut g (nor.bytes old) (nor.bytes old) → Changes nor old new (LeavesBlocks g) → CleansFor nor g index pages old new P
@@ -73,6 +74,7 @@ module _ {D : Type 0} {nor : NorOf D} {g : Geometry} {index pages : ℕ} where
     idle = λ ready. reads_none old;
     needed = λ whole. swept_none g index pages (nor.bytes old);
     rest = rest;
+    none = λ no_index no_pages. rest;
   }
 
   -- no more than reads
@@ -108,14 +110,14 @@ module _ {N : Type 0} {nor : NorOf N} {index pages : ℕ} where
 
   -- nothing was cleaned for it
   pub untaken : {T E : Type 0} {errors : Errors E} {old new : View N nor} {r : Result T E} {step : Step T} → Stepped errors old new r step →
-      (nor.tells old.nor.now → step.needs old.geometry (nor.bytes old.nor.now) → RoomCut old.geometry (nor.bytes old.nor.now) (nor.bytes old.nor.now)) → StaysSpare step → Taken errors index pages old new r step
+      (nor.tells old.nor.now → step.needs old.geometry (nor.bytes old.nor.now) → RoomCut old.geometry (nor.bytes old.nor.now) (nor.bytes old.nor.now)) → LeavesBlocksBy step → Taken errors index pages old new r step
   untaken {old = old} call stays spare = record {
     steps = call;
     cleans = λ tells need. cleans_none (stays tells need) (wider call.cuts (λ told image cut. spare old.geometry (nor.bytes old.nor.now) image (cut need)));
   }
 
   -- pages were had, and then a step was taken that cleans no block
-  pub taken_then : {S T D E : Type 0} {before : Errors D} {errors : Errors E} {old mid new : View N nor} {x : S} {r : Result T E} {first : Step S} {last whole : Step T} → StaysSpare last → Taken before index pages old mid (Ok x) first → Stepped errors mid new r last →
+  pub taken_then : {S T D E : Type 0} {before : Errors D} {errors : Errors E} {old mid new : View N nor} {x : S} {r : Result T E} {first : Step S} {last whole : Step T} → LeavesBlocksBy last → Taken before index pages old mid (Ok x) first → Stepped errors mid new r last →
       (nor.tells old.nor.now → whole.needs old.geometry (nor.bytes old.nor.now) → Begins old.geometry (nor.bytes old.nor.now) first whole) →
       (nor.tells old.nor.now → whole.needs old.geometry (nor.bytes old.nor.now) → first.done old.geometry (nor.bytes old.nor.now) (nor.bytes mid.nor.now) x →
       Finishes old.geometry (nor.bytes old.nor.now) (nor.bytes mid.nor.now) last whole) → Taken errors index pages old new r whole
@@ -129,11 +131,13 @@ module _ {N : Type 0} {nor : NorOf N} {index pages : ℕ} where
             let b = begins tells need in
             let f = finishes tells need (call.steps.ends tells b.needs) in
             let c = call.cleans tells b.needs in
+            let leaves : Changes nor mid.nor.now new.nor.now (LeavesBlocks g) = wider cuts (λ told image cut. spare g (nor.bytes mid.nor.now) image (cut f.needs)) in
             record {
               mid = c.mid;
               first = c.first;
               idle = c.idle;
               needed = λ whole. c.needed (λ e. let no : false ≡ true = e in cc);
-              rest = both (leaves_then g) c.rest (wider cuts (λ told image cut. spare g (nor.bytes mid.nor.now) image (cut f.needs)));
+              rest = both (leaves_then g) c.rest leaves;
+              none = λ no_index no_pages. both (leaves_then g) (c.none no_index no_pages) leaves;
             };
       }

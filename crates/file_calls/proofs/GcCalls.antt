@@ -4,7 +4,7 @@ use Rattle.std.specs.Prelude.{Result, Ok, Err, IsErrOf, Some, None}
 use Rattle.geometry.specs.declared.geometry.Geometry.{Geometry}
 use Rattle.nor_core.specs.declared.state.NorState.{Ghosts as NorOf}
 use Rattle.nor_core.specs.Device.{Changes, OnlyReads}
-use Rattle.nor_core.proofs.Cuts.{wider, unchanged}
+use Rattle.nor_core.proofs.Cuts.{wider, unchanged, read_after}
 use Rattle.table_model.specs.declared.error.FsErr.{FsErr}
 use Rattle.table_model.specs.declared.error.FsErr.TheVariants.{Tight as FsTight, DeviceFault, Damaged}
 use Rattle.table_model.specs.Table.{State}
@@ -19,6 +19,7 @@ use Rattle.room_laws.specs.Stopping.{CanClean}
 use Rattle.room_laws.proofs.Stops.{reserve_can_clean}
 use Rattle.block_gc.specs.declared.room.RoomErr.TheVariants.{Step, Tight}
 use Rattle.block_gc.specs.RoomMade.{CollectCut, IsReady}
+use Rattle.block_gc.proofs.Cleanings.{reserve_ready}
 use Rattle.trim_laws.specs.Upkeep.{Upkeep}
 use Rattle.flash_view.specs.declared.kinds.StepErr.{StepErr}
 use Rattle.flash_view.specs.declared.kinds.StepErr.TheVariants.{DeviceFault as StepFault, Damaged as StepDamaged}
@@ -46,15 +47,18 @@ pub room_cuts : {N : Type 0} {nor : NorOf N} {d : N} (old : View N nor) → (nor
     Changes nor old.nor.now d (λ was image. IsTidy old.geometry was → RoomCut old.geometry was image)
 room_cuts old sized changes = wider changes (λ tells image cut tidy. let w = cut tidy in record { keeps = w.keeps; mends = λ reserve. w.mends (view_can old sized tells tidy reserve) })
 
--- the blocks that it cleans, where each cleaning began without the pages that it is for
-pub room_cleans : {N : Type 0} {nor : NorOf N} {d : N} {index pages : ℕ} {P : Type 0} (old : View N nor) → Changes nor old.nor.now d (λ was image. IsTidy old.geometry was → RoomCut old.geometry was image) → IsTidy old.geometry (nor.bytes old.nor.now) →
+-- the blocks that it cleans, where each cleaning began without the pages that it is for; with two free blocks it cleans none for no pages
+pub room_cleans : {N : Type 0} {nor : NorOf N} {d : N} {index pages : ℕ} {P : Type 0} (old : View N nor) → Changes nor old.nor.now d (λ was image. IsTidy old.geometry was → RoomCut old.geometry was image) → IsTidy old.geometry (nor.bytes old.nor.now) → HasReserve old.geometry (nor.bytes old.nor.now) →
     (IsReady old.geometry (nor.bytes old.nor.now) index pages → OnlyReads nor old.nor.now d) → ((P → ⊥) → SweptFor old.geometry index pages (nor.bytes old.nor.now) (nor.bytes d)) → CleansFor nor old.geometry index pages old.nor.now d P
-room_cleans {nor = nor} {d = d} old changes tidy idle needed = record {
+room_cleans {nor = nor} {d = d} {index = index} {pages = pages} old changes tidy reserve idle needed = record {
   mid = d;
   first = wider changes (λ tells image cut. cut tidy);
   idle = idle;
   needed = needed;
   rest = unchanged d (LeavesBlocks old.geometry) (λ tells. leaves_none old.geometry (nor.bytes d));
+  none = λ no_index no_pages.
+      let ready : IsReady old.geometry (nor.bytes old.nor.now) index pages = rw (no_index, no_pages) (reserve_ready old.geometry (nor.bytes old.nor.now) reserve) in
+      read_after (unchanged old.nor.now (LeavesBlocks old.geometry) (λ tells. leaves_none old.geometry (nor.bytes old.nor.now))) (idle ready);
 }
 
 -- a step of it that was not done met a fault

@@ -65,8 +65,9 @@ module _ {D : Type 0} {nor : NorOf D} {g : Geometry} where
     idle = λ ready. call.idle (ready_less g (nor.bytes old) i p 2 1 less fewer ready);
     needed = λ whole.
         let w = call.needed whole in
-        record { swept = w.swept; needed = none_more (λ image. IsReady g image i p) (λ image. IsReady g image 2 1) w.swept.through (λ image ready. ready_less g image i p 2 1 less fewer ready) w.needed };
+        record { swept = w.swept; few = w.few; needed = none_more (λ image. IsReady g image i p) (λ image. IsReady g image 2 1) w.swept.through (λ image ready. ready_less g image i p 2 1 less fewer ready) w.needed };
     rest = call.rest;
+    none = λ no_index no_pages. absurd (let no : 2 ≡ 0 = no_index in omega (arith, no));
   }
 
 module _ {D : Type 0} (nor : NorOf D) (g : Geometry) where

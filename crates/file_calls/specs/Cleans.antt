@@ -1,5 +1,5 @@
 -- Which blocks a call cleans for the pages that it takes.
-use Rattle.std.specs.Prelude.{ℕ, ◌+◌, ◌≤◌, ◌⊎◌, List, [], ◌∷◌, length, replicate, Option, Some, Result, IsErr}
+use Rattle.std.specs.Prelude.{◌≡◌, ℕ, ◌+◌, ◌≤◌, ◌⊎◌, List, [], ◌∷◌, length, replicate, Option, Some, Result, IsErr}
 use Rattle.geometry.specs.declared.geometry.Geometry.{Geometry}
 use Rattle.geometry.specs.Numbers.{body}
 use Rattle.nor_core.specs.declared.state.NorState.{Ghosts as NorOf}
@@ -11,6 +11,7 @@ use Rattle.table_model.specs.Ask.{Ask, Creates, Opens, Writes, Fills, Truncates,
 use Rattle.table_model.specs.Steps.{part_ends, open_file}
 use Rattle.image_model.specs.Tidy.{HasReserve}
 use Rattle.renew_laws.specs.Tails.{IsTailReady}
+use Rattle.room_laws.specs.Stopping.{gc_measure}
 use Rattle.block_gc.specs.RoomMade.{SweptTo, NoneIs, IsReady}
 use Rattle.trim_laws.specs.Wear.{SameWear}
 use Rattle.flash_view.specs.declared.view.View.{View}
@@ -28,9 +29,10 @@ index_taken (SetsMetaOpen fd meta) = 1
 index_taken _ = 0
 
 -- Blocks were cleaned, one after the other, and each cleaning began where so many pages of each kind weren't had or fewer than two blocks
--- were free.
+-- were free. Each has lowered the number that cleanings lower, so there were no more than that.
 pub record SweptFor (g : Geometry) (index pages : ℕ) (was now : List ℕ) : Type 0 where
   pub swept : SweptTo g was now
+  pub few : gc_measure g now + length swept.through ≤ gc_measure g was
   pub needed : NoneIs (λ image. IsReady g image index pages) swept.through
 
 -- Two free blocks stay free, and no block is made fresh.
@@ -38,7 +40,7 @@ pub record LeavesBlocks (g : Geometry) (was image : List ℕ) : Type 0 where
   pub reserve : HasReserve g was → HasReserve g image
   pub wear : SameWear g was image
 
--- A call cleans blocks for so many pages of each kind before all else: up to where the device is `mid`.
+-- A call, or a turn of one, has a first part in which it cleans blocks for so many pages of each kind: up to where the device is `mid`.
 pub record CleansFor {D : Type 0} (nor : NorOf D) (g : Geometry) (index pages : ℕ) (old new : D) (broken : Type 0) : Type 0 where
   pub mid : D
   -- a cut up to there keeps the image, and where two blocks were free it recovers
@@ -49,6 +51,8 @@ pub record CleansFor {D : Type 0} (nor : NorOf D) (g : Geometry) (index pages : 
   pub needed : ¬ broken → SweptFor g index pages (nor.bytes old) (nor.bytes mid)
   -- from there on two blocks stay free where two are, and no block is made fresh, at each cut
   pub rest : Changes nor mid new (LeavesBlocks g)
+  -- for no pages no block is cleaned: this holds of all of it
+  pub none : index ≡ 0 → pages ≡ 0 → Changes nor old new (LeavesBlocks g)
 
 -- A call over a view took that step, and cleaned blocks for so many pages of each kind before it.
 pub record Taken {N T E : Type 0} {nor : NorOf N} (errors : Errors E) (index pages : ℕ) (old new : View N nor) (result : Result T E)

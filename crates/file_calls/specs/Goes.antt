@@ -108,11 +108,12 @@ pub record Does {D : Type 0} (nor : NorOf D) (g : Geometry) (ask : Ask) (old new
   pub numbered : IsNumbered g slots ask reply wrote
   pub looks : is_change ask ≡ false → wrote ≡ false
   -- a call that is neither a write nor garbage collection has a first part in which it cleans blocks: none there where the index page that it takes
-  -- is had and two blocks are free, and each where that isn't so. From there on two free blocks stay free, and no block is made fresh
+  -- is had and two blocks are free, and each where that isn't so. From there on two free blocks stay free, and no block is made fresh; a call that
+  -- takes no index page, as a remove, cleans none
   pub cleans : (s : State) → IsImageOf nor g old slots s → is_write ask ≡ false → ask ≢ Collects →
       CleansFor nor g (index_taken ask) 0 old new (reply ≡ Refuses DeviceFault)
   -- and a write cleans in turns, one for each step that it publishes at most, and one more where the tail of its file is to be made ready: each has
-  -- such a first part, for two index pages and one data page, and no block is made fresh from there up to the next
+  -- such a first part, for two index pages and one data page, and no block is made fresh from there to the end of the turn
   pub turns : (s : State) → IsImageOf nor g old slots s → is_write ask ≡ true →
       CleansInTurns nor g (WritesNoTail g (nor.bytes old) s ask) (length (steps g (has_spare g (nor.bytes old)) s ask)) old new
       (reply ≡ Refuses DeviceFault)

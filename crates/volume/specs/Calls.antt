@@ -109,11 +109,11 @@ module _ {N : Type 0} {nor : NorOf N} where
     pub keeps : keeps_slots ask ≡ true → new.slots.now ≡ old.slots.now
     -- where nothing waits, a call that is neither a write nor garbage collection has a first part in which it cleans blocks: none there where the
     -- index page that it takes is had and two blocks are free, and each where that isn't so. From there on two free blocks stay free, and no block
-    -- is made fresh
+    -- is made fresh; a call that takes no index page, as a remove, cleans none
     pub cleans : (m : Moment) → takes_calls old ≡ true → HasNone old → Holds old m → is_write ask ≡ false → ask ≢ Collects →
         CleansFor nor old.geometry (index_taken ask) 0 old.nor.now new.nor.now (reply ≡ Refuses DeviceFault)
     -- and a write cleans in turns, one for each step that it publishes at most, and one more where the tail of its file is to be made ready: each
-    -- has such a first part, for two index pages and one data page, and no block is made fresh from there up to the next
+    -- has such a first part, for two index pages and one data page, and no block is made fresh from there to the end of the turn
     pub turns : (m : Moment) → takes_calls old ≡ true → HasNone old → Holds old m → is_write ask ≡ true →
         CleansInTurns nor old.geometry (WritesNoTail old.geometry (nor.bytes old.nor.now) m.state ask)
         (length (steps old.geometry (has_spare old.geometry (nor.bytes old.nor.now)) m.state ask)) old.nor.now new.nor.now (reply ≡ Refuses DeviceFault)

@@ -6,7 +6,7 @@ use Rattle.block_gc.proofs.BatchFinds.{none_on, none_left, copy_found}
 use Rattle.block_gc.proofs.batch.copy_from.Goals as goal
 
 pub pages-init : goal.pages-init
-pages-init g c = record { looks = looks_none c.args.v.now; work = refl; told = λ tells p from to copy. absurd (omega (arith, from, to)) }
+pages-init g c = record { low = omega arith; looks = looks_none c.args.v.now; work = refl; told = λ tells p from to copy. absurd (omega (arith, from, to)) }
 
 pub returns-clause-told : goal.returns-clause-told
 returns-clause-told g c = λ tells.
@@ -28,7 +28,8 @@ returns-then-is_copy-clause-told g c = λ tells.
     let view = c.args.v.now in
     let image = g.N.NorState.bytes view.nor.now in
     let next : IsNextLive view.geometry image c.pages.at c.args.id c.args.id c.in-Some.page c.in-Some.head = rw (was.looks.same.geometry, was.looks.reads.bytes, c.in-Some.is) at (found.told (was.looks.reads.told tells)) in
-    copy_found view.geometry image c.args.id c.args.span c.args.block c.pages.at c.in-Some.page c.in-Some.head c.requires.id next (rw (found.looks.same.geometry, was.looks.same.geometry) at (sym c.is_copy.ensures ∙ c.if-is_copy.true))
+    let inside = rw c.in-Some.is at found.inside in
+    (omega (arith, was.low, inside.0), copy_found view.geometry image c.args.id c.args.span c.args.block c.pages.at c.in-Some.page c.in-Some.head c.requires.id next (rw (found.looks.same.geometry, was.looks.same.geometry) at (sym c.is_copy.ensures ∙ c.if-is_copy.true)))
 
 pub pages-smaller : goal.pages-smaller
 pages-smaller g c =
@@ -40,6 +41,7 @@ pages-preserved g c =
     let was = c.pages.invariant in
     let found = c.in_ok-page.ensures in
     record {
+      low = let inside = rw c.in-Some.is at found.inside in omega (arith, was.low, inside.0, c.from-at.ensures);
       looks = looks_then was.looks found.looks;
       work = found.work ∙ was.work;
       told = λ tells.

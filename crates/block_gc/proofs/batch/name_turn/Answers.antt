@@ -26,4 +26,4 @@ returns-clause-told g c = λ tells was plain most first run cs has turn named.
     let both = looks_then first_look.looks seen.looks in
     let found = rw (first_look.looks.same.geometry, first_look.looks.reads.bytes, c.in-Some-2.is) at (seen.told (first_look.looks.reads.told tells)) in
     let one = rw (both.same.geometry, seen.work, first_look.work) at c.name_page.ensures.named in
-    name_on _ was _ a.block most a.batch first run cs has a.page turn c.in-Some.span (rw c.in-Some.is at (first_look.told tells)) c.requires.id plain _ _ c.in-Some-2.to found named one
+    name_on _ was _ a.block most a.batch first run cs has a.page turn c.in-Some.span (rw c.in-Some.is at (first_look.told tells)) c.requires.id plain _ _ c.in-Some-2.to found.1 named one

@@ -23,7 +23,7 @@ returns-in-Ok g c =
         stands = λ tells need stood. made.stands tells need.tidy stood;
         ends = λ tells need. made.done tells need.tidy;
       };
-      cleans = λ tells need. room_cleans c.args.v.now cuts need.tidy (made.idle tells need.tidy) (λ whole. let w = made.done tells need.tidy in record { swept = w.swept; needed = w.needed });
+      cleans = λ tells need. room_cleans c.args.v.now cuts need.tidy need.reserve (made.idle tells need.tidy) (λ whole. let w = made.done tells need.tidy in record { swept = w.swept; few = w.lower; needed = w.needed });
     }
 
 pub returns-in-Err-Tight : goal.returns-in-Err-Tight
@@ -41,7 +41,7 @@ returns-in-Err-Tight g c =
         stands = λ tells need stood. tt;
         ends = λ tells need. absurd (short.never_tight tells (view_can c.args.v.now (g.met.N.Nor.sized _) tells need.tidy need.reserve) need.room c.in-Err-Tight.field-0-is);
       };
-      cleans = λ tells need. room_cleans c.args.v.now cuts need.tidy (short.idle tells need.tidy) (λ whole. absurd (whole refl));
+      cleans = λ tells need. room_cleans c.args.v.now cuts need.tidy need.reserve (short.idle tells need.tidy) (λ whole. absurd (whole refl));
     }
 
 pub returns-in-Err-Step : goal.returns-in-Err-Step
@@ -61,5 +61,5 @@ returns-in-Err-Step g c =
         stands = λ tells need stood. tt;
         ends = λ tells need. ap as_fs_err (step_fault why (rw is at (failed.undamaged tells need.tidy)));
       };
-      cleans = λ tells need. room_cleans c.args.v.now cuts need.tidy (failed.idle tells need.tidy) (λ whole. absurd (whole refl));
+      cleans = λ tells need. room_cleans c.args.v.now cuts need.tidy need.reserve (failed.idle tells need.tidy) (λ whole. absurd (whole refl));
     })
