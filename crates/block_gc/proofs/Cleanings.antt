@@ -81,6 +81,11 @@ pub none_of_none : (is : List ℕ → Type 0) (g : Geometry) (a : List ℕ) → 
 unfolding NoneIs swept_none
 none_of_none is g a = tt {0}
 
+-- where nothing was cleaned the number that cleanings lower is the same
+pub none_lower : (g : Geometry) (a : List ℕ) → gc_measure g a + length (swept_none g a).through ≤ gc_measure g a
+unfolding swept_none
+none_lower g a = omega arith
+
 -- ---- one cleaning
 
 pub chosen_can : (g : Geometry) (a : List ℕ) (block : ℕ) → IsTidy g a → chosen_block g a ≡ Some block → CanCleanBlock g a block
@@ -176,7 +181,7 @@ needed_on g goal n a b c first second unmet =
 pub cleanings_few : (g : Geometry) (n : ℕ) (a b : List ℕ) → IsTidy g a → Cleanings g n a b → n < 2 ^ 64 - 1
 cleanings_few g n a b t so_far = let small = measure_is_small g a t in let lower = so_far.lower in omega (arith, small, lower)
 
--- each swept step lowered that number
+-- that number fell by as many as there are swept steps, at least
 lower_by : (g : Geometry) (n : ℕ) (a b : List ℕ) (all : Cleanings g n a b) → gc_measure g b + length all.swept.through ≤ gc_measure g a
 lower_by g n a b all = let p = all.count in let q = all.lower in omega (arith, p, q)
 

@@ -239,7 +239,7 @@ pub record IsCopyAt (g : Geometry) (image : List ℕ) (id span block p : ℕ) : 
   pub span_is : span_of page ≡ span
   pub apart : block_of g p ≢ block
 
--- a page that was found is such a page from page `from` on (any of them); where none was found there is none
+-- a page that was found is such a page from page `from` on (any of them); where none was found there is none from there on
 abbrev pub IsCopyFrom : Geometry → (image : List ℕ) (id span block from : ℕ) → Option ℕ → Type 0
 IsCopyFrom g image id span block from None = (p : ℕ) → from ≤ p → IsCopyAt g image id span block p → ⊥
 IsCopyFrom g image id span block from (Some p) = (from ≤ p) × IsCopyAt g image id span block p

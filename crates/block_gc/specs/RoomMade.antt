@@ -97,8 +97,8 @@ abbrev pub CleanedOrNone : Geometry → Bool → (was now : List ℕ) → Type 0
 CleanedOrNone g true was now = Cleanings g 1 was now
 CleanedOrNone g false was now = (chosen_block g was ≡ None) × (now ≡ was)
 
--- The image is tidy with its table, so many pages of each kind are had, and two blocks are free. Each cleaning began where that wasn't so, and
--- lowered the number that cleanings lower. Tails that were ready are so still.
+-- The image is tidy with its table, so many pages of each kind are had, and two blocks are free. Each cleaning began where that wasn't so. The
+-- number that cleanings lower (gc_measure) fell by as many as there were, at least. Tails that were ready are so still.
 pub record MadeRoom (g : Geometry) (index pages : ℕ) (was now : List ℕ) : Type 0 where
   pub tidy : IsTidy g now
   pub table : table_of g now ≡ table_of g was
@@ -109,8 +109,8 @@ pub record MadeRoom (g : Geometry) (index pages : ℕ) (was now : List ℕ) : Ty
   pub tails : KeepsTails g was now
 
 -- The image is tidy with its table, no block is chosen, and the pages aren't had or fewer than two blocks are free, as where each cleaning began.
--- Each has lowered the number that cleanings lower. It can be cleaned where the first could, and has its reserve where the first had. Tails that
--- were ready are so still.
+-- The number that cleanings lower (gc_measure) fell by as many as there were, at least. It can be cleaned where the first could, and has its
+-- reserve where the first had. Tails that were ready are so still.
 pub record IsTight (g : Geometry) (index pages : ℕ) (was now : List ℕ) : Type 0 where
   pub tidy : IsTidy g now
   pub table : table_of g now ≡ table_of g was
@@ -124,7 +124,8 @@ pub record IsTight (g : Geometry) (index pages : ℕ) (was now : List ℕ) : Typ
   pub tails : KeepsTails g was now
 
 -- The image is tidy with its table, and packed: no block is worth cleaning, and all blocks are free but those that the pages of each kind need.
--- Each cleaning lowered the number that cleanings lower. It has its reserve where the first had. Tails that were ready are so still.
+-- The number that cleanings lower (gc_measure) fell by as many as there were, at least. It has its reserve where the first had. Tails that were
+-- ready are so still.
 pub record IsCompact (g : Geometry) (was now : List ℕ) : Type 0 where
   pub tidy : IsTidy g now
   pub table : table_of g now ≡ table_of g was
@@ -137,8 +138,8 @@ pub record IsCompact (g : Geometry) (was now : List ℕ) : Type 0 where
   pub reserve : HasReserve g was → HasReserve g now
   pub tails : KeepsTails g was now
 
--- The image is tidy with its table, and collection is stuck. Each cleaning lowered the number that cleanings lower. It can be cleaned where the
--- first could, and has its reserve where the first had. Tails that were ready are so still.
+-- The image is tidy with its table, and collection is stuck. The number that cleanings lower (gc_measure) fell by as many as there were, at
+-- least. It can be cleaned where the first could, and has its reserve where the first had. Tails that were ready are so still.
 pub record IsStuck (g : Geometry) (was now : List ℕ) : Type 0 where
   pub tidy : IsTidy g now
   pub table : table_of g now ≡ table_of g was

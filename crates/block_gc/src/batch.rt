@@ -236,7 +236,7 @@ fn is_copy(g: &Geometry, page: u16, head: PageHeader, span: u16, block: u16) -> 
     head.span == span && block_of(g, page) != block
 }
 
-// The first live data page of an id and a span from page `from` on that lies outside a block.
+// A live data page of an id and a span that lies outside a block, from page `from` on (the first, which no clause says).
 #[tactic(auto, using(flash_view::proofs::Looking::looks_then))]
 fn copy_from<N: Nor>(
     v: &mut View<'_, N>,

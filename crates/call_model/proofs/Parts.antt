@@ -65,7 +65,7 @@ end_cases page size at len e h = ⊎_elim
     (λ own. inr (inr (eqb-true e (at + len) own)))
     (or_cases ((e % page == 0) || (e == size)) (e == at + len) h)
 
--- a part has an end
+-- where a part may end, the test for an end passes
 pub end_passes : (page size at len e : ℕ) → (e % page ≡ 0) ⊎ ((e ≡ size) ⊎ (e ≡ at + len)) → ((e % page == 0) || (e == size) || (e == at + len)) ≡ true
 end_passes page size at len e h = ⊎_elim
     (λ (page_end : e % page ≡ 0). or_left ((e % page == 0) || (e == size)) (e == at + len) (or_left (e % page == 0) (e == size) (eq-eqb (e % page) 0 page_end)))

@@ -29,7 +29,7 @@ index_taken (SetsMetaOpen fd meta) = 1
 index_taken _ = 0
 
 -- Blocks were cleaned, one after the other, and each cleaning began where so many pages of each kind weren't had or fewer than two blocks
--- were free. Each has lowered the number that cleanings lower, so there were no more than that.
+-- were free. The number that cleanings lower (gc_measure) fell by as many as there were, at least.
 pub record SweptFor (g : Geometry) (index pages : ℕ) (was now : List ℕ) : Type 0 where
   pub swept : SweptTo g was now
   pub few : gc_measure g now + length swept.through ≤ gc_measure g was
@@ -51,7 +51,7 @@ pub record CleansFor {D : Type 0} (nor : NorOf D) (g : Geometry) (index pages : 
   pub needed : ¬ broken → SweptFor g index pages (nor.bytes old) (nor.bytes mid)
   -- from there on two blocks stay free where two are, and no block is made fresh, at each cut
   pub rest : Changes nor mid new (LeavesBlocks g)
-  -- for no pages no block is cleaned: this holds of all of it
+  -- where it takes no pages it cleans no block: from its beginning on two blocks stay free where two are, and no block is made fresh, at each cut
   pub none : index ≡ 0 → pages ≡ 0 → Changes nor old new (LeavesBlocks g)
 
 -- A call over a view took that step, and cleaned blocks for so many pages of each kind before it.

@@ -109,7 +109,7 @@ pub record Does {D : Type 0} (nor : NorOf D) (g : Geometry) (ask : Ask) (old new
   pub looks : is_change ask ≡ false → wrote ≡ false
   -- a call that is neither a write nor garbage collection has a first part in which it cleans blocks: none there where the index page that it takes
   -- is had and two blocks are free, and each where that isn't so. From there on two free blocks stay free, and no block is made fresh; a call that
-  -- takes no index page, as a remove, cleans none
+  -- takes no index page, such as a remove, cleans none
   pub cleans : (s : State) → IsImageOf nor g old slots s → is_write ask ≡ false → ask ≢ Collects →
       CleansFor nor g (index_taken ask) 0 old new (reply ≡ Refuses DeviceFault)
   -- and a write cleans in turns, one for each step that it publishes at most, and one more where the tail of its file is to be made ready: each has

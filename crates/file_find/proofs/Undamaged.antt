@@ -1,4 +1,4 @@
--- No page has the mark of a file that is damaged exactly where no id is damaged.
+-- No id is damaged exactly where no page has the mark of a damaged file.
 use Rattle.std.proofs.Common.{◌≡◌, ◌≢◌, ℕ, ◌<◌, ◌≤◌, List, [], Option, Some, None, sym, ◌∙◌, refl, arith}
 use Rattle.std.specs.Prelude.{slice_index}
 use Rattle.std.specs.Option.{option_map}
@@ -41,20 +41,20 @@ module _ (g : Geometry) (image marks : List ℕ) (marked : IsMarked g image mark
 
 -- the other way: no id is damaged, so no page has the mark of one that is
 module _ (g : Geometry) (image marks : List ℕ) (marked : IsMarked g image marks) (undamaged : damaged_of g image ≡ []) where
-  -- an id of a file has no cause
+  -- no id has a cause of damage
   no_cause_at : (id : ℕ) → 1 ≤ id → id ≤ 0x7FFF → cause_at g image id ≡ None
   unfolding cause_at damaged_of damages
   no_cause_at id low high =
       rw (filter_map-nil (λ (j : ℕ). damage (has_of g (live_at g image)) 0x7FFF j (has_of g (live_at g image) j)) 1 0x7FFF undamaged id low (omega (arith, high))) refl
 
-  -- a page that is no header page has the mark 0, and one that is has that of a file of the table
-  harmless_by : (p mark : ℕ) (o : Option ℕ) → headed (live_at g image p) ≡ o → mark ≡ mark_of g image p → mark ≢ 0 → mark < 3 → ⊥
-  harmless_by p mark None at is some few = some (is ∙ sym (mark_none g image p (sym at)))
-  harmless_by p mark (Some id) at is some few =
+  -- so no page has the mark 1 or 2: one that tells no id has 0, and of one that is marked the id would have a cause
+  no_mark_by : (p mark : ℕ) (o : Option ℕ) → headed (live_at g image p) ≡ o → mark ≡ mark_of g image p → mark ≢ 0 → mark < 3 → ⊥
+  no_mark_by p mark None at is some few = some (is ∙ sym (mark_none g image p (sym at)))
+  no_mark_by p mark (Some id) at is some few =
       let within = head_within g image p id at in
       let first = mark_head g image p id at (λ z. some (is ∙ z)) in
       let cause = unlisted_some g image id p mark first is (rw (lt-ltb mark 3 few) refl) in
       none-some cause.0 (sym (no_cause_at id within.0 within.1) ∙ sym cause.1)
 
-  pub harmless : (mark : ℕ) → mark ≢ 0 → mark < 3 → (p : ℕ) → p < page_count g → slice_index marks p ≢ mark
-  harmless mark some few p low is = harmless_by p mark (headed (live_at g image p)) refl (sym is ∙ marked.each p low) some few
+  pub no_mark : (mark : ℕ) → mark ≢ 0 → mark < 3 → (p : ℕ) → p < page_count g → slice_index marks p ≢ mark
+  no_mark mark some few p low is = no_mark_by p mark (headed (live_at g image p)) refl (sym is ∙ marked.each p low) some few

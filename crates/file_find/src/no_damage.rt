@@ -19,7 +19,7 @@ fn lacks(marks: &[u8], mark: u8, pages: u16) -> bool
     }
 }
 
-/// Whether no id is damaged, by right marks. Each page's mark is looked at, and no id.
+/// Whether no id is damaged, by right marks. Marks alone are looked at, and no id.
 pub fn none_damaged<N: Nor>(v: &View<'_, N>, marks: &[u8]) -> bool
     requires room { check_need v.now.geometry ≤ length marks.now }
     requires marked { N.tells v.now.nor.now → IsMarked v.now.geometry (N.bytes v.now.nor.now) marks.now }

@@ -133,7 +133,7 @@ impl<R: Files + Drop> TreeFiles<R> {
     }
 
     /// The path of which the host was asked last: a folder that was read, or a file that was opened, made or told of. Where that failed, it is
-    /// the path on which it did.
+    /// the path on which it did; of a file that was to be made it is the file's, also where a folder on the way failed.
     pub fn asked_path(&self) -> io::Result<String> {
         let Ok(asked) = self.asked.try_borrow() else {
             return Err(is_lent());
@@ -226,8 +226,8 @@ impl<R: Files + Drop> Files for TreeFiles<R> {
 
     type Dir = Names;
 
-    // The path is the name of an entry, as `open_dir` lists it: a new file's path on the host is made from it, that of a file which is
-    // there was found when the folder was listed.
+    // Of the path only the last part counts: an entry, as `open_dir` lists it. A new file's path on the host is made from it. That of a file
+    // which is there is known since the folder was listed, or since the file was made here.
     fn open_file(&self, how: &OpenOptions, path: &str) -> io::Result<R::File> {
         if how.asks_create_new() {
             self.make(how, path)

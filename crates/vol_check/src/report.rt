@@ -45,7 +45,6 @@ impl From<Failed> for CheckErr {
     }
 }
 
-// How a check failed whose step did.
 impl From<StepErr> for CheckErr {
     ghost from_gives = { λ step why. why ≡ as_check_err step };
 

@@ -19,7 +19,7 @@ use Rattle.room_laws.specs.Mends.{CanMend}
 use Rattle.room_laws.specs.Recovery.{Recovers}
 use Rattle.room_laws.proofs.Staying.{stripped_is_staged}
 use Rattle.block_gc.specs.Partings.{Parted}
-use Rattle.block_gc.proofs.Cleanings.{swept_none, none_of_none}
+use Rattle.block_gc.proofs.Cleanings.{swept_none, none_of_none, none_lower}
 use Rattle.flash_view.specs.declared.view.View.{View}
 use Rattle.flash_view.specs.Same.{IsSameView, OnlyLooks}
 use Rattle.trim_laws.specs.Wear.{Worn}
@@ -150,6 +150,7 @@ finished_at_once g was now free enough p =
         tidy = p.parting.tidy;
         table = refl;
         swept = swept_none g now;
+        lower = none_lower g now;
         needed = none_of_none (HasReserve g) g now;
         stopped = inl reserve;
         mended = λ can. reserve;
@@ -207,6 +208,7 @@ module _ (g : Geometry) (was mid now : List ℕ) (report : Report) (free : ℕ) 
       parting = p.parting;
       alone = λ none. p.alone (shared-blocks g was mid checked.uses ∙ none);
       swept = p.cleared.swept;
+      lower = p.cleared.lower;
       needed = p.cleared.needed;
       quiet = λ reserve. p.quiet (p.parting.reserve reserve);
       worn = worn;

@@ -113,20 +113,20 @@ fault_no_page d e = cc
 failed_no_page : (d : Differ) → Failed ≡ Damaged d → ⊥
 failed_no_page d e = cc
 
--- a step that failed fails the read through a map: what holds but for a fault
+pub descriptor_no_page : (d : Differ) → BadDescriptor ≡ Damaged d → ⊥
+descriptor_no_page d e = cc
+
+-- a read through a map fails as its step did: what holds of the step, unless the device failed, holds of the read
 pub fault_gives : (P : ℕ → Type 0) (why : StepErr) → HoldsOrFault (Err why) P → GivesOrFault (Err (Call (as_fs_err why))) P
 fault_gives P StepFault told = tt
 fault_gives P (StepDamaged differ) told = absurd told
 
--- and the page that was wanted and the one that was found differ
+-- and what was wanted there and what was found differ
 pub missing_apart : (id : ℕ) (why : StepErr) → IsMissing id why → (d : Differ) → why_not {T = ℕ} (Err (Call (as_fs_err why))) ≡ Some (Call (Damaged d)) → d.wanted ≢ d.found
 missing_apart id StepFault missing d e = absurd (cc)
 missing_apart id (StepDamaged differ) missing d e =
     let same : differ ≡ d = cc in
     subst (λ (x : Differ). x.wanted ≢ x.found) same missing.apart
-
-pub descriptor_no_page : (d : Differ) → BadDescriptor ≡ Damaged d → ⊥
-descriptor_no_page d e = cc
 
 -- no call broke
 pub stage_fine : (had : Bool) (reply : Answer) → breaks reply ≡ false → stage_after had reply ≡ Checked

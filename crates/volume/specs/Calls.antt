@@ -109,7 +109,7 @@ module _ {N : Type 0} {nor : NorOf N} where
     pub keeps : keeps_slots ask ≡ true → new.slots.now ≡ old.slots.now
     -- where nothing waits, a call that is neither a write nor garbage collection has a first part in which it cleans blocks: none there where the
     -- index page that it takes is had and two blocks are free, and each where that isn't so. From there on two free blocks stay free, and no block
-    -- is made fresh; a call that takes no index page, as a remove, cleans none
+    -- is made fresh; a call that takes no index page, such as a remove, cleans none
     pub cleans : (m : Moment) → takes_calls old ≡ true → HasNone old → Holds old m → is_write ask ≡ false → ask ≢ Collects →
         CleansFor nor old.geometry (index_taken ask) 0 old.nor.now new.nor.now (reply ≡ Refuses DeviceFault)
     -- and a write cleans in turns, one for each step that it publishes at most, and one more where the tail of its file is to be made ready: each

@@ -1,5 +1,5 @@
 -- What the whole check of a mounted volume does.
-use Rattle.std.specs.Prelude.{◌≡◌, ◌≢◌, ℕ, ◌<◌, ◌≤◌, ◌⊎◌, List, length, nat_lt, Bool, true, false, Result, Err, None, OnOk, IfOk, IfErr, IfSome, IsErrOf}
+use Rattle.std.specs.Prelude.{◌≡◌, ◌≢◌, ℕ, ◌+◌, ◌<◌, ◌≤◌, ◌⊎◌, List, length, nat_lt, Bool, true, false, Result, Err, None, OnOk, IfOk, IfErr, IfSome, IsErrOf}
 use Rattle.geometry.specs.declared.geometry.Geometry.{Geometry}
 use Rattle.geometry.specs.Numbers.{usable, write_refusal}
 use Rattle.nor_core.specs.declared.state.NorState.{Ghosts as NorOf}
@@ -14,6 +14,7 @@ use Rattle.image_model.specs.Killed.{killed_of}
 use Rattle.image_model.specs.Collect.{chosen_block}
 use Rattle.image_model.specs.Sound.{Keeps}
 use Rattle.room_laws.specs.Mends.{CanMend}
+use Rattle.room_laws.specs.Stopping.{gc_measure}
 use Rattle.room_laws.specs.Recovery.{Recovers}
 use Rattle.room_laws.specs.Staged.{IsStripped}
 use Rattle.block_gc.specs.RoomMade.{SweptTo, NoneIs}
@@ -35,8 +36,9 @@ CheckCut = PartCut
 
 -- The stages of a check left an image in which every block has the erase count that it had, but the one that lacked its magic the next one.
 -- In that image the shared blocks were parted, and where none was shared nothing was done. Then chosen blocks were cleaned, one after the
--- other, and each cleaning began with fewer than two free blocks: so none where two were free after the stages. From the stages on no erase
--- count changed but by making blocks fresh, each with the next count.
+-- other, and each cleaning began with fewer than two free blocks: so none where two were free after the stages. The number that cleanings lower
+-- (gc_measure) fell by as many as there were, at least. From the stages on no erase count changed but by making blocks fresh, each with the next
+-- count.
 pub record SweepsAfter (g : Geometry) (was now : List ℕ) : Type 0 where
   pub staged : List ℕ
   pub stages : IsStripped g was staged
@@ -45,6 +47,7 @@ pub record SweepsAfter (g : Geometry) (was now : List ℕ) : Type 0 where
   pub parting : Parted g staged parted
   pub alone : shared_blocks g was ≡ 0 → parted ≡ staged
   pub swept : SweptTo g parted now
+  pub lower : gc_measure g now + length swept.through ≤ gc_measure g parted
   pub needed : NoneIs (HasReserve g) swept.through
   pub quiet : HasReserve g staged → now ≡ parted
   pub worn : Worn g staged now
@@ -129,11 +132,13 @@ abbrev pub check_stopped : Errors CheckErr
 check_stopped = record { fault = DeviceFault; means = MayStop; told = tt }
 
 -- What the cleaning leaves, one chosen block after the other: a tidy image with the table, and two free blocks, or no block that is
--- chosen; where the image mends, two. Each cleaning began with fewer.
+-- chosen; where the image mends, two. Each cleaning began with fewer. The number that cleanings lower (gc_measure) fell by as many as there
+-- were, at least.
 pub record Cleared (g : Geometry) (was now : List ℕ) : Type 0 where
   pub tidy : IsTidy g now
   pub table : table_of g now ≡ table_of g was
   pub swept : SweptTo g was now
+  pub lower : gc_measure g now + length swept.through ≤ gc_measure g was
   pub needed : NoneIs (HasReserve g) swept.through
   pub stopped : HasReserve g now ⊎ (chosen_block g now ≡ None)
   pub mended : CanMend g was → HasReserve g now

@@ -20,7 +20,7 @@ returns-in-Ok g c =
       upkeep = made.upkeep;
       worn = λ tells tidy. cuts_whole _ _ _ (made.upkeep.now tells tidy).wears (made.done tells tidy).tidy.magic;
       stands = made.stands;
-      ends = λ tells tidy. let now = made.done tells tidy in record { tidy = now.tidy; table = now.table; swept = now.swept; needed = none_more _ _ now.swept.through (reserve_ready _) now.needed; stopped = inl now.ready.reserve; mended = λ can. now.ready.reserve };
+      ends = λ tells tidy. let now = made.done tells tidy in record { tidy = now.tidy; table = now.table; swept = now.swept; lower = now.lower; needed = none_more _ _ now.swept.through (reserve_ready _) now.needed; stopped = inl now.ready.reserve; mended = λ can. now.ready.reserve };
     }
 
 pub returns-in-Err-Tight : goal.returns-in-Err-Tight
@@ -35,7 +35,7 @@ returns-in-Err-Tight g c =
       upkeep = short.upkeep;
       worn = λ tells tidy. cuts_whole _ _ _ (short.upkeep.now tells tidy).wears (short.tight tells tidy (ap (λ (w : RoomErr). Err w) is)).tidy.magic;
       stands = λ tells tidy stood. rw is at (short.stands tells tidy stood);
-      ends = λ tells tidy. let now = short.tight tells tidy (ap (λ (w : RoomErr). Err w) is) in record { tidy = now.tidy; table = now.table; swept = now.swept; needed = none_more _ _ now.swept.through (reserve_ready _) now.needed; stopped = inr now.none; mended = λ can. absurd (short.mended tells can refl refl is) };
+      ends = λ tells tidy. let now = short.tight tells tidy (ap (λ (w : RoomErr). Err w) is) in record { tidy = now.tidy; table = now.table; swept = now.swept; lower = now.lower; needed = none_more _ _ now.swept.through (reserve_ready _) now.needed; stopped = inr now.none; mended = λ can. absurd (short.mended tells can refl refl is) };
     }
 
 pub returns-in-Err-Step : goal.returns-in-Err-Step
