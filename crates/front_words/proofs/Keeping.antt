@@ -178,7 +178,7 @@ all_keep asked length found v (Some page) None meta magic p b m k h = told_keeps
 all_keep asked length found v None block meta magic p b m k h = told_keeps asked found v h
 
 -- what is reached was settled, and ends in reach
-reached_is : (r : Result Volume Unsettled) (v : Volume) → reached r ≡ Ok v → (r ≡ Ok v) × (end_of v ≤ 4294967295)
+pub reached_is : (r : Result Volume Unsettled) (v : Volume) → reached r ≡ Ok v → (r ≡ Ok v) × (end_of v ≤ 4294967295)
 reached_is (Err why) v h = cc
 reached_is (Ok u) v h = let is = go (leb (end_of u) 4294967295) refl h in (ap (λ (w : Volume). Ok w) is.0, is.1)
   where

@@ -5,3 +5,4 @@ pub mod Refusing
 pub mod Keeping
 pub mod Working
 pub mod Rivals
+mod Written

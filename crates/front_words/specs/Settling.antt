@@ -1,5 +1,5 @@
 -- The numbers of the volume that a line means.
-use Rattle.std.specs.Prelude.{◌≡◌, ℕ, ◌+◌, ◌-◌, ◌*◌, ◌/◌, ◌%◌, List, [], ◌∷◌, filter, Bool, true, false, not, Option, Some, None, is_none, option_map}
+use Rattle.std.specs.Prelude.{◌≡◌, ℕ, ◌+◌, ◌-◌, ◌*◌, ◌/◌, ◌%◌, ◌<◌, List, Contains, [], ◌∷◌, filter, Bool, true, false, not, Option, Some, None, is_none, option_map}
 use Rattle.std.specs.Prelude.{unwrap_or, Result, Ok, Err, ◌==◌, ◌&&◌, ◌||◌, nat_le, nat_lt, if◌then◌else◌}
 use Rattle.geometry.specs.declared.magic.MagicKind.{MagicKind}
 use Rattle.std.specs.List.{list_all}
@@ -200,3 +200,16 @@ pub record KeepsNumbers (asked : Asked) (v : Volume) : Type 0 where
   pub magic : IsAsGiven asked.magic v.magic
   pub at : IsAsGiven asked.at v.at
   pub size : IsAsGiven asked.size (v.block * v.blocks)
+
+-- Of all that were found and agree, no other leaves doubt of `c`; at most one of its blocks lacks its magic; fewer than two of its ids have two
+-- live header pages, or the size is given; no id is damaged, or that is no matter for the line; and the volume has its numbers.
+pub record IsSafe (asked : Asked) (all : List Candidate) (c : Candidate) (v : Volume) : Type 0 where
+  pub alone : list_all (no_rival c) all ≡ true
+  pub marked : c.spoiled < 2
+  pub apart : is_none asked.size ≡ true → c.doubled < 2
+  pub whole : edits asked.word ≡ true → asked.is_forced ≡ false → c.damaged ≡ 0
+  pub taken : v ≡ found_volume c v.meta
+
+-- a volume is one that a line may write to
+abbrev pub MayBeWritten : Asked → List Candidate → Volume → Type 0
+MayBeWritten asked all v = (c : Candidate) × Contains all c × IsSafe asked all c v

@@ -277,7 +277,7 @@ fn next_agreeing<'c>(asked: &Asked, found: &'c [Candidate]) -> Option<(Candidate
 }
 
 // A volume that was found, with these meta bytes.
-fn found_volume(found: &Candidate, meta: u32) -> Volume
+pub(crate) fn found_volume(found: &Candidate, meta: u32) -> Volume
     ensures { result ≡ the_volume found.now meta }
 {
     Volume {

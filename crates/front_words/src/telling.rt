@@ -1,7 +1,7 @@
 //! Why a line is refused, in words for the one who gave it.
 use crate::asked::Refusal;
 use crate::option::Slot;
-use crate::settling::{Candidate, Unsettled};
+use crate::settling::{Candidate, Unsettled, Volume, found_volume};
 use crate::word::Word;
 use geometry::MagicKind;
 use std::fmt;
@@ -119,23 +119,49 @@ fn magic_name(magic: MagicKind) -> &'static str {
 }
 
 /// The options that choose it.
-impl fmt::Display for Candidate {
+impl fmt::Display for Volume {
     fn fmt<W: fmt::Write>(&self, f: &mut fmt::Formatter<W>) -> fmt::Result {
-        let Candidate {
+        let Volume {
             at,
             page,
             block,
             blocks,
-            first_meta,
+            meta,
             magic,
-            ..
         } = *self;
         let size = u64::from(block) * u64::from(blocks);
         let magic = magic_name(magic);
         write!(
             f,
-            "--at {at} --page {page} --block {block} --size {size} --meta {first_meta} --magic {magic}"
+            "--at {at} --page {page} --block {block} --size {size} --meta {meta} --magic {magic}"
         )
+    }
+}
+
+/// The options that choose it, and what it reads.
+impl fmt::Display for Candidate {
+    fn fmt<W: fmt::Write>(&self, f: &mut fmt::Formatter<W>) -> fmt::Result {
+        let volume = found_volume(self, self.first_meta);
+        let Candidate {
+            first_meta,
+            last_meta,
+            whole,
+            damaged,
+            spoiled,
+            doubled,
+            ..
+        } = *self;
+        write!(f, "{volume}: {whole} files, {damaged} damaged")?;
+        if first_meta != last_meta {
+            write!(f, ", by --meta up to {last_meta} too")?;
+        }
+        if spoiled >= 2 {
+            write!(f, ", {spoiled} blocks without magic")?;
+        }
+        if doubled >= 2 {
+            write!(f, ", {doubled} ids twice")?;
+        }
+        Ok(())
     }
 }
 
