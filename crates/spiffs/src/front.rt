@@ -13,7 +13,7 @@ use crate::{Refusal, USAGE, has_repaired, take_memory, tell};
 use chip_row::ChipRow;
 use front_edge::HostChip;
 use front_words::{Asked, Refusal as LineRefusal, Slot, Word, first_given, read_line};
-use host_edge::StdFolder;
+use host_edge::{Shown, StdFolder};
 
 // The option that a refusal speaks of without naming it: one that isn't known, or whose value is missing.
 fn unnamed(why: LineRefusal) -> Option<Slot> {
@@ -28,7 +28,7 @@ fn unnamed(why: LineRefusal) -> Option<Slot> {
 fn refuse_line(rt: &HostRuntime, words: &[String], why: LineRefusal) -> u8 {
     let status = tell(rt, "! usage\n", USAGE);
     if let Some(slot) = unnamed(why) {
-        let given = text_of(first_given(words, slot));
+        let given = Shown(text_of(first_given(words, slot)));
         // (if standard error fails too there is nobody to tell)
         let _said = eprintln!(rt; "spiffs: {given}: {why}; try spiffs --help");
         return status;

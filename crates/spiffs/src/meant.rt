@@ -10,7 +10,7 @@ use front_words::{
     Asked, Candidate, Unsettled, Volume, Word, choose_sure, image_word, settle, top_words,
     wants_detect,
 };
-use host_edge::{Access, HeldFile, Trouble};
+use host_edge::{Access, HeldFile, Shown, Trouble};
 use nor_image::Image;
 use std::alloc::{AllocError, Global};
 use std::{fs, str};
@@ -57,6 +57,7 @@ pub fn text_of(word: Option<&[u8]>) -> &str {
 
 /// Says what failed of a file of the host, and answers that status.
 pub fn fail(rt: &HostRuntime, path: &str, trouble: &Trouble, status: u8) -> Stop {
+    let path = Shown(path);
     // (if standard error fails too there is nobody to tell)
     let _said = eprintln!(rt; "spiffs: {path}: {trouble}");
     Stop::Status(status)
@@ -65,6 +66,7 @@ pub fn fail(rt: &HostRuntime, path: &str, trouble: &Trouble, status: u8) -> Stop
 // Says that what stands in the place of the image is a folder, and answers the status.
 fn refuse_folder(rt: &HostRuntime, image: &str) -> Stop {
     let status = tell(rt, "! usage\n", USAGE);
+    let image = Shown(image);
     // (if standard error fails too there is nobody to tell)
     let _said = eprintln!(rt;
         "spiffs: {image}: is a folder, and no image; the forms are pack FOLDER IMAGE and unpack IMAGE FOLDER"
@@ -95,8 +97,8 @@ fn access_of(asked: &Asked) -> Access {
     }
 }
 
-// Says why the image's file can't be had, and answers the status.
-fn refuse_image(rt: &HostRuntime, image: &str, why: &Trouble) -> Stop {
+/// Says why the image's file can't be had or replaced, and answers the status.
+pub fn refuse_image(rt: &HostRuntime, image: &str, why: &Trouble) -> Stop {
     if why.is_busy() {
         let status = tell(rt, "! busy\n", BUSY);
         return fail(rt, image, why, status);
@@ -236,6 +238,7 @@ fn tell_candidates(rt: &HostRuntime, image: &str, found: &[Candidate]) {
     }
     let others = found.len().saturating_sub(TOLD);
     if others > 0 {
+        let image = Shown(image);
         let _said = eprintln!(rt; "spiffs: and {others} others: spiffs detect {image}");
     }
 }
@@ -284,7 +287,8 @@ fn refuse_volume(
     } else {
         ""
     };
-    let _said = eprintln!(rt; "spiffs: {image}: {why}{end}");
+    let shown = Shown(image);
+    let _said = eprintln!(rt; "spiffs: {shown}: {why}{end}");
     if tells_found(why) {
         let _said = eprintln!(rt; "spiffs: detect finds:");
         tell_candidates(rt, image, found);
@@ -314,6 +318,7 @@ fn tell_doubt(
     }
     if let Some(why) = doubt_of(asked, found, volume) {
         let others = found.len().saturating_sub(1);
+        let image = Shown(image);
         // (if standard error fails too there is nobody to tell)
         let _said = eprintln!(rt;
             "spiffs: {image}: the volume {volume} is read, and {others} others were found; a word that writes is refused: {why}; see spiffs detect {image}"

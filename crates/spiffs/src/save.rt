@@ -1,6 +1,6 @@
 //! Images that were changed or made in memory, and how they come into their files.
 use crate::give::{explain_image, row_of, trouble_of};
-use crate::meant::{Meant, fail};
+use crate::meant::{Meant, refuse_image};
 use crate::stop::Stop;
 use crate::BOARD_FAULT;
 use chip_row::{Chip, ChipRow};
@@ -118,7 +118,7 @@ pub fn sync_image(rt: &HostRuntime, meant: &Meant<'_>) -> Result<(), Stop> {
     };
     match held.sync() {
         Ok(()) => Ok(()),
-        Err(why) => Err(fail(rt, meant.image, &why, BOARD_FAULT)),
+        Err(why) => Err(refuse_image(rt, meant.image, &why)),
     }
 }
 
@@ -129,7 +129,7 @@ pub fn save_image(rt: &HostRuntime, meant: &Meant<'_>, bytes: &[u8]) -> Result<(
         Some(held) if held.is_device() => write_device(rt, meant, held, bytes),
         _ => match replace(rt, meant, bytes) {
             Ok(()) => Ok(()),
-            Err(why) => Err(fail(rt, meant.image, &why, BOARD_FAULT)),
+            Err(why) => Err(refuse_image(rt, meant.image, &why)),
         },
     }
 }
