@@ -1,6 +1,7 @@
 ghost use Rattle.std.specs.Prelude.{[], ◌+◌, ◌<◌, ◌^◌};
 
 use crate::file::Window;
+use crate::limit::SizeLimit;
 use crate::trouble::note;
 use crate::{HeldFile, Trouble};
 use chip_row::{Chip, ChipState};
@@ -56,7 +57,7 @@ impl FileChip {
         if held.is_device() && length < u64::from(size) {
             return FileChip::failed(Trouble::Small { length, size }, size, unit);
         }
-        let window = Window::new(length, held.is_device());
+        let window = Window::new(length, held.is_device(), held.limit());
         FileChip {
             held: Some(held),
             window,
@@ -73,7 +74,7 @@ impl FileChip {
     pub fn failed(why: Trouble, size: u32, unit: u32) -> FileChip {
         FileChip {
             held: None,
-            window: Window::new(0, false),
+            window: Window::new(0, false, SizeLimit::none()),
             size,
             unit,
             last: 0,

@@ -1,6 +1,6 @@
 ghost use Rattle.std.specs.Prelude.{◌≡◌, ◌+◌, ◌<◌, ◌≤◌, ◌^◌, length, IfOk};
 
-use crate::limit::write_limited;
+use crate::limit::SizeLimit;
 use std::fs::File;
 use std::io;
 use std::io::{Error, ErrorKind};
@@ -22,6 +22,8 @@ pub(crate) struct Window {
     end: u64,
     // Whether the file is a device, which is never lengthened.
     is_device: bool,
+    // How far it may be written.
+    limit: SizeLimit,
     // Whether anything was written.
     has_written: bool,
     bytes: [u8; WINDOW],
@@ -65,32 +67,24 @@ fn read_whole(file: &File, end: u64, at: u64, into: &mut [u8]) -> io::Result<()>
 }
 
 // Appends 0xFF to the file from its end on until it reaches a place. Answers how long the file is then.
-fn append_blank(file: &File, end: u64, at: u64) -> io::Result<u64> {
+fn append_blank(file: &File, limit: SizeLimit, end: u64, at: u64) -> io::Result<u64> {
     let mut end = end;
     while end < at {
         let piece = (at - end).min(WINDOW as u64);
-        write_limited(file, end, &BLANK[..piece as usize])?;
+        limit.write_at(file, end, &BLANK[..piece as usize])?;
         end += piece;
     }
     Ok(end)
 }
 
-// Writes bytes at a place of a plain file or a device.
-fn write_to(file: &File, is_device: bool, at: u64, from: &[u8]) -> io::Result<()> {
-    if is_device {
-        file.write_all_at(from, at)
-    } else {
-        write_limited(file, at, from)
-    }
-}
-
 impl Window {
     /// Of a file of that length. Nothing is kept yet.
-    pub(crate) fn new(end: u64, is_device: bool) -> Window {
+    pub(crate) fn new(end: u64, is_device: bool, limit: SizeLimit) -> Window {
         Window {
             start: None,
             end,
             is_device,
+            limit,
             has_written: false,
             bytes: [0xFF; WINDOW],
         }
@@ -135,7 +129,7 @@ impl Window {
     fn make_ready(&mut self, file: &File, at: u64, count: u64) -> io::Result<()> {
         self.has_written = true;
         if !self.is_device {
-            self.end = append_blank(file, self.end, at)?;
+            self.end = append_blank(file, self.limit, self.end, at)?;
         } else if at.saturating_add(count) > self.end {
             return Err(Error::new(ErrorKind::StorageFull, "the device ends there"));
         }
@@ -145,7 +139,7 @@ impl Window {
     // Writes bytes at a place of the file.
     fn write_at(&mut self, file: &File, at: u64, from: &[u8]) -> io::Result<()> {
         self.make_ready(file, at, from.len() as u64)?;
-        write_to(file, self.is_device, at, from)?;
+        self.limit.write_at(file, at, from)?;
         self.end = self.end.max(at.saturating_add(from.len() as u64));
         Ok(())
     }
@@ -164,7 +158,7 @@ impl Window {
         for (byte, asked) in piece.iter_mut().zip(from) {
             *byte &= *asked;
         }
-        write_to(file, self.is_device, at, piece)?;
+        self.limit.write_at(file, at, piece)?;
         self.end = self.end.max(at.saturating_add(count as u64));
         self.start = Some(start);
         Ok(count)

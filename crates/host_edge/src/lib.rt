@@ -24,7 +24,7 @@ pub use chip::{Access, FileChip};
 pub use folder::StdFolder;
 pub use held::HeldFile;
 pub use host_file::PassedOver;
-pub use limit::{check_limit, write_limited};
+pub use limit::SizeLimit;
 pub use one_file::is_one_file;
 pub use replacing::replace_file;
 pub use shown::Shown;
