@@ -87,17 +87,6 @@ sized_keeps asked length page block meta magic v p b m k h =
       size = as_is asked.size (bytes_of asked length) (v.block * v.blocks) is.bytes_are (given_or asked.size (length - start_of asked));
     }
 
--- the first that passes a filter passes
-filter_first : (p : Candidate → Bool) (xs : List Candidate) (c : Candidate) (cs : List Candidate) → filter p xs ≡ c ∷ cs → p c ≡ true
-filter_first p [] c cs h = cc
-filter_first p (x ∷ xs) c cs h = ⊎_elim
-    (λ (yes : p x ≡ true). let same : x ≡ c = head (rw yes at h) in subst (λ (y : Candidate). p y ≡ true) same yes)
-    (λ (no : p x ≡ false). filter_first p xs c cs (rw no at h))
-    (cases_Bool (p x))
-  where
-    head : x ∷ filter p xs ≡ c ∷ cs → x ≡ c
-    head h = cc
-
 found_keeps : (asked : Asked) (c : Candidate) (meta : ℕ) → agrees asked c ≡ true → IsAsGiven asked.meta meta → KeepsNumbers asked (found_volume c meta)
 found_keeps asked c meta fine given =
     let at = both (fits asked.at c.at) (fits (known_page asked) c.page && (fits (known_block asked) c.block && (fits asked.size (c.block * c.blocks) && fits_magic (known_magic asked) c.magic))) fine in
