@@ -102,6 +102,34 @@ impl FileChip {
         }
     }
 
+    /// The whole file as a chip of its own, in units of one byte, where it has bytes and no more than a chip may have.
+    pub fn whole(&self) -> Option<FileChip> {
+        let held = self.held.as_ref()?;
+        match u32::try_from(self.window.end()) {
+            Ok(0) | Err(_) => None,
+            Ok(size) => Some(held.chip(size, 1)),
+        }
+    }
+
+    /// The same file as a chip of another size, before anything was read or written.
+    pub fn resized(self, size: u32, unit: u32) -> FileChip {
+        let FileChip {
+            held,
+            window: _,
+            size: _,
+            unit: _,
+            last: _,
+            reads: _,
+            faults: _,
+            trouble,
+        } = self;
+        match (held, trouble) {
+            (Some(held), _) => FileChip::over(held, size, unit),
+            (None, Some(why)) => FileChip::failed(why, size, unit),
+            (None, None) => FileChip::failed(Trouble::Shorter, size, unit),
+        }
+    }
+
     /// Ends the use of the chip: what was written is brought onto the host's medium, and the file must not have become shorter than it was.
     /// A chip that failed before has said why.
     pub fn finish(&self) -> Result<(), Trouble> {

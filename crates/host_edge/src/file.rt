@@ -43,14 +43,19 @@ fn piece_of(at: u64, count: usize) -> (u64, usize, usize)
     )
 }
 
+// The error for a file that has fewer bytes than it had.
+fn shorter() -> Error {
+    Error::new(
+        ErrorKind::UnexpectedEof,
+        "it has become shorter, since another program has changed it",
+    )
+}
+
 /// Reads bytes that the file has; where it has fewer it has become shorter, which is a fault.
 pub(crate) fn read_known(file: &File, at: u64, into: &mut [u8]) -> io::Result<()> {
     match file.read_exact_at(into, at) {
         Ok(()) => Ok(()),
-        Err(why) if why.kind() == ErrorKind::UnexpectedEof => Err(Error::new(
-            ErrorKind::UnexpectedEof,
-            "it has become shorter, since another program has changed it",
-        )),
+        Err(why) if why.kind() == ErrorKind::UnexpectedEof => Err(shorter()),
         Err(why) => Err(why),
     }
 }
@@ -124,13 +129,23 @@ impl Window {
         Ok(())
     }
 
-    // Sees to it that so many bytes may be written at a place. To a plain file 0xFF is appended until it reaches there: bytes past its end
-    // count as erased, and those that a write leaves out would otherwise read as zeros.
+    // Sees to it that bytes may be written at a place of a plain file: 0xFF is appended until it reaches there, since bytes past its end
+    // count as erased, and those that a write leaves out would otherwise read as zeros. So would those that it has lost.
+    fn reach(&mut self, file: &File, at: u64) -> io::Result<()> {
+        if file.metadata()?.len() < self.end {
+            return Err(shorter());
+        }
+        self.end = append_blank(file, self.limit, self.end, at)?;
+        Ok(())
+    }
+
+    // Sees to it that so many bytes may be written at a place.
     fn make_ready(&mut self, file: &File, at: u64, count: u64) -> io::Result<()> {
         self.has_written = true;
         if !self.is_device {
-            self.end = append_blank(file, self.limit, self.end, at)?;
-        } else if at.saturating_add(count) > self.end {
+            return self.reach(file, at);
+        }
+        if at.saturating_add(count) > self.end {
             return Err(Error::new(ErrorKind::StorageFull, "the device ends there"));
         }
         Ok(())
