@@ -4,7 +4,7 @@ use crate::give::{Guard, Told, chip_copy, chip_file, end_told, give_on, row_of};
 use crate::meant::{Meant, find_meant, text_of};
 use crate::picture::picture;
 use crate::room::{df, size};
-use crate::save::{is_replaced, save_copy, sync_image};
+use crate::save::{end_image, is_replaced, save_copy, sync_image};
 use crate::stop::Stop;
 use crate::store::{put, remove, rename};
 use crate::trees::{pack, unpack};
@@ -110,7 +110,7 @@ fn perform(rt: &HostRuntime, words: &[String], asked: Asked) -> Result<u8, Stop>
         return size(rt, words, &asked);
     }
     let mut meant = find_meant(rt, words, asked)?;
-    match asked.word {
+    let status = match asked.word {
         Word::Pack | Word::Gen => pack(rt, &mut meant),
         Word::Unpack => unpack(rt, &mut meant),
         Word::Fsck => check(rt, &meant),
@@ -121,7 +121,8 @@ fn perform(rt: &HostRuntime, words: &[String], asked: Asked) -> Result<u8, Stop>
         Word::Df => df(rt, &meant),
         Word::Picture => picture(rt, &meant),
         _ => list(rt, &meant),
-    }
+    }?;
+    Ok(end_image(rt, &meant, status))
 }
 
 /// Does what a line asks that begins with no command of the top call, and answers the status.

@@ -111,6 +111,20 @@ fn write_device(
     sync_image(rt, meant)
 }
 
+/// The status of a line that has ended so: a plain file that has lost bytes meanwhile is a fault.
+pub fn end_image(rt: &HostRuntime, meant: &Meant<'_>, status: u8) -> u8 {
+    let Some(held) = &meant.held else {
+        return status;
+    };
+    let trouble = match held.metadata() {
+        Ok(told) if told.is_file() && told.len() < held.length() => Trouble::Shorter,
+        Ok(_) => return status,
+        Err(why) => Trouble::Read(why),
+    };
+    explain_image(rt, meant, Some(&trouble));
+    BOARD_FAULT
+}
+
 /// Has what was written in place onto its disk.
 pub fn sync_image(rt: &HostRuntime, meant: &Meant<'_>) -> Result<(), Stop> {
     let Some(held) = &meant.held else {
