@@ -1,5 +1,5 @@
 -- What is noted of each id in a walk over the pages: no header page of it was met, or one, or more.
-use Rattle.std.specs.Prelude.{ℕ, ◌≡◌, ◌==◌, ◌<◌, ◌≤◌, List, length, Bool, false, Option, Some, None, if◌then◌else◌, slice_index, slice_set}
+use Rattle.std.specs.Prelude.{ℕ, zero, suc, ◌≡◌, ◌==◌, ◌<◌, ◌≤◌, List, length, Bool, false, Option, Some, None, if◌then◌else◌, slice_index, slice_set}
 use Rattle.image_model.specs.Live.{Live}
 use Rattle.doubled_ids.specs.Doubled.{heads_to, doubled_to}
 
