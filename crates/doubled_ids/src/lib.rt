@@ -2,5 +2,7 @@
 #![tactic(auto)]
 
 mod counting;
+mod laws;
 
 pub use counting::{WORK, count_doubled};
+pub use laws::neat_volumes_double_none;
