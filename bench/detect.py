@@ -100,6 +100,12 @@ class Volume:
                 whole += 1
         return whole, len(heads) - whole
 
+    @staticmethod
+    def doubled(live):
+        """How many ids have two live header pages or more."""
+        heads = [word(page, 0) % 0x8000 for page in live.values() if word(page, 0) >= 0x8000 and word(page, 2) == 0]
+        return sum(heads.count(ident) > 1 for ident in set(heads))
+
     def whole_name(self, live, index, ident, head, meta):
         field = bytes(head[13:45])
         size = word(head, 8) + 65536 * word(head, 10)
@@ -162,8 +168,10 @@ def lines(data):
             f"at {volume.at} page {volume.page} block {volume.block} blocks {volume.blocks} meta {metas}"
             f" magic {volume.kind} files {most} damaged {damaged}"
         )
-        if volume.spoiled() >= 2:
-            line += f" spoiled {volume.spoiled()}"
+        spoiled = volume.spoiled()
+        line += f" spoiled {spoiled}" if spoiled > 1 else ""
+        doubled = volume.doubled(live)
+        line += f" doubled {doubled}" if doubled > 1 else ""
         found.append((-most, damaged, place, line))
     return [line for _, _, _, line in sorted(found)]
 
