@@ -1,5 +1,5 @@
 -- How many blocks lack their magic: counted, and said of each two.
-use Rattle.std.proofs.Common.{◌≡◌, ℕ, zero, suc, ◌+◌, ◌<◌, ◌≤◌, List, length, Bool, true, false, not, refl, sym, ◌∙◌, ap, subst, arith, ⊎_elim}
+use Rattle.std.proofs.Common.{◌≡◌, ℕ, zero, suc, ◌+◌, ◌<◌, ◌≤◌, length, Bool, true, false, not, refl, sym, ◌∙◌, ap, subst, arith, ⊎_elim}
 use Rattle.std.specs.Prelude.{filter}
 use Rattle.std.specs.List.{range_with_len}
 use Rattle.std.proofs.lemmas.Bool.{cases_Bool, cases_lt, false_from_ne_true, not-true}
@@ -118,5 +118,5 @@ pub row_by : (good other : ℕ → Bool) (kind : MagicKind) (n : ℕ) → 0 < n 
 row_by good other kind n some same row = record {
   gaps = gaps_by good other (widest_gap kind) n same row.gaps;
   few = (let count : failing good n ≡ failing other n = same_count good other 0 n (λ b low high. same b (omega (arith, high))) in
-  subst (λ (x : ℕ). x ≤ most_failing kind (other 0) n) count (subst (λ (first : Bool). failing good n ≤ most_failing kind first n) (same 0 some) row.few));
+      subst (λ (x : ℕ). x ≤ most_failing kind (other 0) n) count (subst (λ (first : Bool). failing good n ≤ most_failing kind first n) (same 0 some) row.few));
 }

@@ -140,10 +140,10 @@ module _ (words : List ℕ) (first step page block room : ℕ) where
         by.0,
         by.1,
         by.3,
-        λ lacks h is_in row marked. both_ways _ lacks here,
+        λ lacks h is_in bare row marked. both_ways _ lacks here,
         λ h is_in row told. ⊎_elim
             (λ (yes : is_marked words first step h 0 ≡ true). sym (first_says h is_in yes) ∙ sym is ∙ sym by.2)
-            (λ (no : is_marked words first step h 0 ≡ false). absurd (told no g by.0 by.3 here))
+            (λ (no : is_marked words first step h 0 ≡ false). absurd (told no g by.0 by.1 by.3 here))
             (cases_Bool (is_marked words first step h 0)),
       )
 
@@ -153,7 +153,7 @@ module _ (words : List ℕ) (first step page block room : ℕ) where
     by.0,
     by.1,
     by.3,
-    λ lacks h is_in row marked. none h is_in (sym (first_says h is_in marked) ∙ sym is) row,
+    λ lacks h is_in bare row marked. none h is_in (sym (first_says h is_in marked) ∙ sym is) row,
     λ h is_in row told. ⊎_elim
         (λ (yes : is_marked words first step h 0 ≡ true). absurd (none h is_in (sym (first_says h is_in yes) ∙ sym is) row))
         (λ (no : is_marked words first step h 0 ≡ false). sym (second_says h is_in row no) ∙ sym is' ∙ sym by.2)

@@ -26,7 +26,7 @@ pub record EndsMarked (words : List ℕ) (first step : ℕ) (g : Geometry) : Typ
 -- its first block has its magic, or there is no row of which that is so
 abbrev pub IsToldBy : List ℕ → (first step page block room : ℕ) → Geometry → Type 0
 IsToldBy words first step page block room g = is_marked words first step g 0 ≡ false →
-    (h : Geometry) → IsIn page block room Length h → IsRowOf words first step h → is_marked words first step h 0 ≡ true → ⊥
+    (h : Geometry) → IsIn page block room Length h → h.meta ≡ 0 → IsRowOf words first step h → is_marked words first step h 0 ≡ true → ⊥
 
 -- the one volume with the magic of its length, or none
 abbrev pub TellsLength : List ℕ → (first step page block room : ℕ) → Option Geometry → Type 0

@@ -36,7 +36,13 @@ fn gap_after(gap: u32, has: bool) -> u32
 }
 
 // Whether more than so many blocks of a volume one behind the other lack their magic.
-pub(crate) fn has_wide_gap(words: &[u8], first: usize, step: usize, g: &Geometry, widest: u32) -> bool
+pub(crate) fn has_wide_gap(
+    words: &[u8],
+    first: usize,
+    step: usize,
+    g: &Geometry,
+    widest: u32,
+) -> bool
     requires inside { 2 * (first + step * (g.now.blocks - 1)) + 2 ≤ length words.now }
     requires few { widest ≤ 8 }
     ensures none { IsFalse result → HasNoWideGap (the_marked words.now first step g.now) widest g.now.blocks }

@@ -1,6 +1,6 @@
 use Rattle.std.proofs.Common.{sym, arith}
 use Rattle.volume_detect.specs.Rows.{is_marked}
-use Rattle.volume_detect.proofs.Runs.{count_next, count_last}
+use Rattle.volume_detect.proofs.Runs.{count_next}
 use Rattle.volume_detect.proofs.rows.lacking.Goals as goal
 
 pub loop-b-preserved : goal.loop-b-preserved

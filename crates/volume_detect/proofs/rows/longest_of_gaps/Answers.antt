@@ -1,4 +1,4 @@
-use Rattle.std.proofs.Common.{arith, refl, ◌==◌, sym, ap, ◌∙◌}
+use Rattle.std.proofs.Common.{arith, ◌==◌, sym, ap}
 use Rattle.volume_detect.specs.Rows.{is_equal}
 use Rattle.volume_detect.proofs.Runs.{widest_end}
 use Rattle.volume_detect.proofs.rows.longest_of_gaps.Goals as goal
