@@ -29,9 +29,9 @@ counts_text f = (codes " meta " ++ decimal f.volume.meta) ++ last_text f.volume.
 abbrev pub several_text : List ℕ → ℕ → List ℕ
 several_text word count = if nat_lt count 2 then [] else word ++ decimal count
 
--- the line of a candidate: where it is, what it reads, and how many ids are doubled, if two are or more
+-- the line of a candidate: where it is, what it reads, how many blocks lack their magic, and how many ids are doubled, each if these are two or more
 unfoldable pub found_line : Found → List ℕ
-found_line f = place_text f ++ counts_text f ++ several_text (codes " doubled ") f.doubled ++ 10 ∷ []
+found_line f = place_text f ++ counts_text f ++ several_text (codes " spoiled ") f.spoiled ++ several_text (codes " doubled ") f.doubled ++ 10 ∷ []
 
 -- the lines of candidates
 unfoldable pub found_lines : List Found → List ℕ

@@ -89,6 +89,7 @@ pub(crate) fn put_found(into: &mut [u8], f: &Found) -> usize
 {
     let at = put_place(into, f);
     let at = put_counts(into, at, f);
+    let at = put_several(into, at, b" spoiled ", f.spoiled);
     let at = put_several(into, at, b" doubled ", f.doubled);
     put(into, at, b"\n")
 }
