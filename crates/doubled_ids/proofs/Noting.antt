@@ -1,12 +1,12 @@
 -- What is noted of header pages.
-use Rattle.std.proofs.Common.{◌≡◌, ◌≢◌, ℕ, zero, suc, ◌+◌, ◌<◌, ◌≤◌, ◌==◌, Bool, true, false, if◌then◌else◌, List, length, slice_index, slice_set, Option, Some, None, ap, refl, sym, ◌∙◌, arith, ⊎_elim, length-set}
+use Rattle.std.proofs.Common.{◌≡◌, ℕ, zero, suc, ◌+◌, ◌≤◌, ◌==◌, Bool, true, false, if◌then◌else◌, List, length, slice_index, Option, Some, None, ap, refl, sym, ◌∙◌, arith, ⊎_elim, length-set}
 use Rattle.std.specs.Prelude.{IfSome, filter, nat_lt}
 use Rattle.std.specs.List.{range_with_len}
-use Rattle.std.proofs.lemmas.Bool.{cases_Bool, cases_eq, eq-eqb, ne_eqb, eqb-true, false≢true}
+use Rattle.std.proofs.lemmas.Bool.{cases_eq, eq-eqb, ne_eqb}
 use Rattle.std.proofs.lemmas.List.{get_or-set_same, get_or-set_other}
 use Rattle.image_model.specs.Live.{Live}
 use Rattle.doubled_ids.specs.Doubled.{heads_to, doubled_to}
-use Rattle.doubled_ids.specs.Notes.{IsId, note_of, note_after, is_second, with_one, AreNoted, AreCounted}
+use Rattle.doubled_ids.specs.Notes.{IsId, note_of, note_after, is_second, with_one, AreNoted}
 use Rattle.doubled_ids.proofs.Heads.{Heads, heads_none, heads_here, heads_there, doubled_none, doubled_second, doubled_first}
 
 -- of one header page more

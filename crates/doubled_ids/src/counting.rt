@@ -31,7 +31,7 @@ fn is_header(page: &[u8]) -> bool
 }
 
 // The id of which a page is a live header page, from 1 to 0x7FFF.
-#[tactic(auto, using(plain_image::proofs::Headed::index_is, plain_image::proofs::Headed::index_not, plain_image::proofs::Headed::index_none))]
+#[tactic(auto, using(crate::proofs::Heads::some_id, plain_image::proofs::Headed::index_is, plain_image::proofs::Headed::index_not, plain_image::proofs::Headed::index_none))]
 fn header_id(g: &Geometry, image: &[u8], p: u32) -> Option<u16>
     requires { IsImage g.now image.now }
     ensures id { (id : ℕ) → is_index (the_own (the_live_at g.now image.now) id p) 0 ≡ is_number result id }

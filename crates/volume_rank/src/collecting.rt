@@ -66,15 +66,16 @@ fn found_at(file: &[u8], place: u32, g: &Geometry, work: &mut [u8], marks: &mut 
     ensures found { IsFound file.now result }
     ensures place { result.place ≡ place }
 {
-    let range = range_at(file, byte_of(place), g, work, marks);
+    let at = byte_of(place);
+    let range = range_at(file, at, g, work, marks);
     let volume = with_meta(g, range.first);
     Found {
         place,
         volume,
         last_meta: range.last,
         counts: range.counts,
-        spoiled: spoiled_at(file, byte_of(place), &volume),
-        doubled: doubled_at(file, byte_of(place), &volume, work),
+        spoiled: spoiled_at(file, at, &volume),
+        doubled: doubled_at(file, at, &volume, work),
     }
 }
 

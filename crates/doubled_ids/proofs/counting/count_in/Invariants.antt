@@ -1,5 +1,4 @@
 -- The header pages below p are noted, and so many ids are doubled there.
-use Rattle.std.proofs.Common.{ℕ}
 use Rattle.image_model.specs.Live.{live_at}
 use Rattle.doubled_ids.specs.Notes.{AreNoted, AreCounted}
 use Rattle.doubled_ids.proofs.counting.count_in.Given as goal
