@@ -2,14 +2,16 @@
 ghost use Rattle.std.specs.Prelude.{string_bytes, IfOk};
 ghost use Rattle.host_tree.specs.Below.{IsBelow};
 
-use crate::listing::{Known, Listed, below_top, list};
-use crate::making::{make_folders, want_plain};
+use crate::known::{Known, has_control};
+use crate::listing::{Listed, below_top, list};
+use crate::making::{make_folders, want_folders};
+use host_edge::{not_made, want_same};
 use std::alloc::{AllocError, Allocator, Global};
 use std::cell::RefCell;
-use std::fs::{Files, Metadata, OpenOptions};
+use std::fs::{Files, Metadata, OpenFile, OpenOptions};
 use std::io;
 use std::io::{Error, ErrorKind, Read};
-use tree_paths::{decoded, is_clash, path_of, push_spelled};
+use tree_paths::{decoded, path_of, push_spelled};
 
 /// The files of a tree of folders of the host, as a host that has one folder: the folder `top`. Its entries are the spelled names that the
 /// tree's plain files have on a volume. A file that is made there is put where `tree_paths::path_of` says, aside if its name clashes
@@ -20,6 +22,8 @@ pub struct TreeFiles<R: Files + Drop> {
     alloc: Global,
     top: String,
     makes: bool,
+    // Whether names with control characters are names of files there too.
+    is_raw: bool,
     listed: RefCell<Listed>,
     // The path of which the host was asked last.
     asked: RefCell<String>,
@@ -46,26 +50,6 @@ fn last_part(path: &str) -> &str {
         Some((_, name)) => name,
         None => path,
     }
-}
-
-// The path of the file with that name, if it is known.
-fn known_path<'f>(files: &'f [Known], name: &[u8]) -> Option<&'f str> {
-    for file in files {
-        if file.name.as_slice() == name {
-            return Some(file.path.as_str());
-        }
-    }
-    None
-}
-
-// Whether a name can't be put into the tree beside the files that are there.
-fn clashes(files: &[Known], name: &[u8]) -> bool {
-    for file in files {
-        if is_clash(name, file.name.as_slice()) {
-            return true;
-        }
-    }
-    false
 }
 
 // The path of a file that is made below a folder, aside or not.
@@ -104,9 +88,15 @@ impl<R: Files + Drop> TreeFiles<R> {
             alloc,
             top: String::from_str(alloc, top)?,
             makes,
+            is_raw: false,
             listed: RefCell::new(Listed::none(alloc)),
             asked: RefCell::new(String::from_str(alloc, top)?),
         })
+    }
+
+    /// From now on a name with control characters may be a path of the tree; else the file of such a name is put aside.
+    pub fn take_raw_names(&mut self) {
+        self.is_raw = true;
     }
 
     /// The path that the host opens of the file with such an entry, if there is one.
@@ -115,7 +105,7 @@ impl<R: Files + Drop> TreeFiles<R> {
         let Ok(listed) = self.listed.try_borrow() else {
             return Err(is_lent());
         };
-        match known_path(listed.files.as_slice(), name.as_slice()) {
+        match listed.files.path_of(name.as_slice()) {
             Some(path) => Ok(String::from_str(self.alloc, path)?),
             None => Err(Error::from(ErrorKind::NotFound)),
         }
@@ -173,7 +163,7 @@ impl<R: Files + Drop> TreeFiles<R> {
             return Err(is_lent());
         };
         let mut entries = Vec::new(self.alloc);
-        for file in listed.files.as_slice() {
+        for file in listed.files.all() {
             let mut entry = String::new(self.alloc);
             push_spelled(&mut entry, file.name.as_slice())?;
             entries.push(entry)?;
@@ -188,7 +178,8 @@ impl<R: Files + Drop> TreeFiles<R> {
         let Ok(listed) = self.listed.try_borrow() else {
             return Err(is_lent());
         };
-        let is_aside = clashes(listed.files.as_slice(), name);
+        let is_unwanted = !self.is_raw && has_control(name);
+        let is_aside = is_unwanted || listed.files.clash_with(name)?;
         Ok(new_path_in(self.alloc, self.top.as_str(), name, is_aside)?)
     }
 
@@ -197,8 +188,20 @@ impl<R: Files + Drop> TreeFiles<R> {
         let Ok(mut listed) = self.listed.try_borrow_mut() else {
             return Err(is_lent());
         };
-        listed.files.push(Known { name, path })?;
+        listed.files.add(Known { name, path })?;
         Ok(())
+    }
+
+    // Makes a file at a path, and folders on the way. Each has to be a folder still once the file is there.
+    fn make_at(&self, how: &OpenOptions, path: &str) -> io::Result<R::File> {
+        make_folders(&self.rt, self.top.as_str(), path)?;
+        let file = match self.rt.open_file(how, path) {
+            Ok(file) => file,
+            Err(why) => return Err(not_made(&self.rt, path, why)),
+        };
+        want_folders(&self.rt, self.top.as_str(), path)?;
+        want_same(&self.rt, path, &file.metadata()?)?;
+        Ok(file)
     }
 
     // Makes the file of an entry.
@@ -206,18 +209,19 @@ impl<R: Files + Drop> TreeFiles<R> {
         let name = decoded(self.alloc, last_part(entry).as_bytes())?;
         let path = self.new_path(name.as_slice())?;
         self.ask(path.as_str())?;
-        make_folders(&self.rt, self.top.as_str(), path.as_str())?;
-        let file = self.rt.open_file(how, path.as_str())?;
+        let file = self.make_at(how, path.as_str())?;
         self.know(name, path)?;
         Ok(file)
     }
 
-    // Opens the file of an entry that is there.
+    // Opens the file of an entry that is there. Each folder on the way has to be one before and after. What was opened, whoever opens it looks at.
     fn open_known(&self, how: &OpenOptions, entry: &str) -> io::Result<R::File> {
         let path = self.host_path(entry)?;
         self.ask(path.as_str())?;
-        want_plain(&self.rt, path.as_str())?;
-        self.rt.open_file(how, path.as_str())
+        want_folders(&self.rt, self.top.as_str(), path.as_str())?;
+        let file = self.rt.open_file(how, path.as_str())?;
+        want_folders(&self.rt, self.top.as_str(), path.as_str())?;
+        Ok(file)
     }
 }
 
