@@ -1,6 +1,7 @@
 -- The numbers that a line gives are those of its volume.
-use Rattle.std.proofs.Common.{◌≡◌, ℕ, ◌-◌, ◌*◌, ◌/◌, ◌%◌, ◌<◌, ◌≤◌, List, [], ◌∷◌, Bool, true, false, cond, eqb, leb, refl, sym, ap, ◌∙◌, arith, ⊎_elim, subst, Option, Some, None, Result, Ok, Err}
-use Rattle.std.specs.Prelude.{filter, unwrap_or, option_map, is_none, not, ◌&&◌, ◌||◌}
+use Rattle.std.proofs.Common.{◌≡◌, ℕ, ◌-◌, ◌*◌, ◌/◌, ◌%◌, ◌<◌, ◌≤◌, List, [], ◌∷◌, Bool, true, false, cond, eqb, leb, refl, ap, arith, ⊎_elim, subst, Option, Some, None, Result, Ok, Err}
+use Rattle.std.specs.Prelude.{filter, unwrap_or, is_none, not, nat_lt, nat_le, ◌&&◌, ◌||◌}
+use Rattle.std.specs.List.{list_all}
 use Rattle.std.proofs.lemmas.Bool.{false≢true, cases_Bool}
 use Rattle.std.proofs.lemmas.Grind.{common_steps}
 use Rattle.geometry.specs.declared.magic.MagicKind.{MagicKind}
@@ -9,9 +10,9 @@ use Rattle.front_words.specs.declared.asked.Asked.{Asked}
 use Rattle.front_words.specs.declared.settling.Candidate.{Candidate}
 use Rattle.front_words.specs.declared.settling.Volume.{Volume}
 use Rattle.front_words.specs.declared.settling.Unsettled.{Unsettled}
-use Rattle.front_words.specs.declared.settling.Unsettled.TheVariants.{NoSize, Uneven, Several, AnyMeta, TooFar}
+use Rattle.front_words.specs.declared.settling.Unsettled.TheVariants.{NoSize, Uneven, Several, AnyMeta, Spoiled, Doubled, Harmed, TooFar}
 use Rattle.front_words.specs.Asking.{changes}
-use Rattle.front_words.specs.Settling.{first_of, preset_of, known_page, known_block, known_meta, known_magic, start_of, bytes_of, sized, fits, same_magic, fits_magic, agrees, found_volume, with_meta, as_good, chosen, agreeing, settled_by, end_of, reached, settled, needs_found, IsAsGiven, KeepsNumbers, meta_by}
+use Rattle.front_words.specs.Settling.{no_rival, writes, is_doubled, is_harmed, unless_harmed, none_sure, sure_of, sure, told_volume, first_of, known_page, known_block, known_meta, known_magic, start_of, bytes_of, sized, fits, fits_magic, agrees, found_volume, with_meta, as_good, chosen, agreeing, settled_by, end_of, reached, settled, needs_found, IsAsGiven, KeepsNumbers}
 
 both : (a b : Bool) → (a && b) ≡ true → (a ≡ true) × (b ≡ true)
 both true true h = (refl, refl)
@@ -133,15 +134,51 @@ chosen_keeps asked (c ∷ d ∷ rest) v fine h = go (as_good c d) h
     go true h = cc
     go false h = meta_keeps asked c (known_meta asked) v refl (fine c (d ∷ rest) refl) h
 
+-- each of those that agree does
+filter_all : (t : Candidate → Bool) (xs : List Candidate) → list_all t (filter t xs) ≡ true
+filter_all t [] = refl
+filter_all t (x ∷ xs) = ⊎_elim (λ (yes : t x ≡ true). rw yes (rw yes (filter_all t xs))) (λ (no : t x ≡ false). rw no (filter_all t xs)) (cases_Bool (t x))
+
+harmed_keeps : (asked : Asked) (c : Candidate) (v : Volume) → agrees asked c ≡ true → unless_harmed asked c ≡ Ok v → KeepsNumbers asked v
+harmed_keeps asked c v fine h = go (nat_le 2 c.spoiled) (is_doubled asked c) (is_harmed asked c) h
+  where
+    go : (torn two harmed : Bool) → cond torn (Err (Spoiled c.spoiled)) (cond two (Err (Doubled c.doubled)) (cond harmed (Err (Harmed c.damaged)) (with_meta asked c (known_meta asked)))) ≡ Ok v → KeepsNumbers asked v
+    go true two harmed h = cc
+    go false true harmed h = cc
+    go false false true h = cc
+    go false false false h = meta_keeps asked c (known_meta asked) v refl fine h
+
+none_keeps : (asked : Asked) (all : List Candidate) (v : Volume) → none_sure all ≡ Ok v → KeepsNumbers asked v
+none_keeps asked [] v h = cc
+none_keeps asked (c ∷ rest) v h = cc
+
+this_keeps : (asked : Asked) (all : List Candidate) (c : Candidate) (rest : List Candidate) (v : Volume) → agrees asked c ≡ true → (sure_of asked all rest ≡ Ok v → KeepsNumbers asked v) → (b : Bool) →
+    cond b (unless_harmed asked c) (sure_of asked all rest) ≡ Ok v → KeepsNumbers asked v
+this_keeps asked all c rest v fine later true h = harmed_keeps asked c v fine h
+this_keeps asked all c rest v fine later false h = later h
+
+sure_keeps : (asked : Asked) (all left : List Candidate) (v : Volume) → list_all (agrees asked) left ≡ true → sure_of asked all left ≡ Ok v → KeepsNumbers asked v
+sure_keeps asked all [] v fine h = none_keeps asked all v h
+sure_keeps asked all (c ∷ rest) v fine h =
+    let parts = both (agrees asked c) (list_all (agrees asked) rest) fine in
+    this_keeps asked all c rest v parts.0 (λ later. sure_keeps asked all rest v parts.1 later) (list_all (no_rival c) all) h
+
+told_keeps : (asked : Asked) (found : List Candidate) (v : Volume) → told_volume asked (agreeing asked found) ≡ Ok v → KeepsNumbers asked v
+told_keeps asked found v h = go (writes asked.word asked.repairs) h
+  where
+    go : (b : Bool) → cond b (sure asked (agreeing asked found)) (chosen asked (agreeing asked found)) ≡ Ok v → KeepsNumbers asked v
+    go true h = sure_keeps asked (agreeing asked found) (agreeing asked found) v (filter_all (agrees asked) found) h
+    go false h = chosen_keeps asked (agreeing asked found) v (filter_first (agrees asked) found) h
+
 all_keep : (asked : Asked) (length : ℕ) (found : List Candidate) (v : Volume) (page block meta : Option ℕ) (magic : Option MagicKind) → known_page asked ≡ page → known_block asked ≡ block → known_meta asked ≡ meta → known_magic asked ≡ magic → settled_by asked length found page block meta magic ≡ Ok v → KeepsNumbers asked v
 all_keep asked length found v (Some page) (Some block) (Some meta) (Some magic) p b m k h = sized_keeps asked length page block meta magic v p b m k h
-all_keep asked length found v (Some page) (Some block) (Some meta) None p b m k h = chosen_keeps asked (agreeing asked found) v (filter_first (agrees asked) found) h
-all_keep asked length found v (Some page) (Some block) None magic p b m k h = chosen_keeps asked (agreeing asked found) v (filter_first (agrees asked) found) h
-all_keep asked length found v (Some page) None meta magic p b m k h = chosen_keeps asked (agreeing asked found) v (filter_first (agrees asked) found) h
-all_keep asked length found v None block meta magic p b m k h = chosen_keeps asked (agreeing asked found) v (filter_first (agrees asked) found) h
+all_keep asked length found v (Some page) (Some block) (Some meta) None p b m k h = told_keeps asked found v h
+all_keep asked length found v (Some page) (Some block) None magic p b m k h = told_keeps asked found v h
+all_keep asked length found v (Some page) None meta magic p b m k h = told_keeps asked found v h
+all_keep asked length found v None block meta magic p b m k h = told_keeps asked found v h
 
 -- what is reached was settled, and ends in reach
-reached_is : (r : Result Volume Unsettled) (v : Volume) → reached r ≡ Ok v → (r ≡ Ok v) × (end_of v ≤ 4294967295)
+pub reached_is : (r : Result Volume Unsettled) (v : Volume) → reached r ≡ Ok v → (r ≡ Ok v) × (end_of v ≤ 4294967295)
 reached_is (Err why) v h = cc
 reached_is (Ok u) v h = let is = go (leb (end_of u) 4294967295) refl h in (ap (λ (w : Volume). Ok w) is.0, is.1)
   where

@@ -14,6 +14,7 @@ mod look;
 mod meant;
 mod picture;
 mod room;
+mod save;
 mod script;
 mod stop;
 mod store;
@@ -77,6 +78,9 @@ const OTHER_META: u8 = 23;
 
 /// The status where a word of the front asks for a call that is refused.
 const REFUSED: u8 = 25;
+
+/// The status where another program has the file.
+const BUSY: u8 = 26;
 
 /// The most bytes of work that are lent: enough for every volume.
 const MOST_WORK: usize = 1_048_576;

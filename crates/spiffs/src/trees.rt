@@ -1,20 +1,18 @@
 //! Folders in folders: `pack` makes an image of a tree, and `unpack` puts the files of an image into one.
 use crate::give::{Guard, Told, chip_copy, chip_file, end_told, give_on, row_of};
-use crate::meant::{Meant, fail, text_of};
+use crate::meant::{Meant, text_of};
 use crate::room::explain_need;
+use crate::save::save_copy;
 use crate::stop::Stop;
-use crate::{BAD_NAME, BOARD_FAULT, FOLDER_FAULT, FULL, Memory, explain, take_memory};
+use crate::{BAD_NAME, FOLDER_FAULT, FULL, Memory, explain, take_memory};
 use chip_row::ChipRow;
 use folder_core::{Folder, MemFolder};
 use front_edge::{HostChip, blank_chip};
 use front_words::{folder_word, push_word};
-use host_edge::{Access, BadName, StdFolder, Trouble};
+use host_edge::{BadName, StdFolder, Trouble};
 use host_tree::TreeFiles;
-use nor_core::{Failed, Nor};
 use std::alloc::{AllocError, Global};
-use std::fs::OpenOptions;
 use std::io;
-use std::io::Write;
 
 // The name of a file in the folder of a tree's files, as it stands in the tree.
 fn bad_name_in<'f>(bad: BadName<'f>, path: &'f str, by: &'f str) -> BadName<'f> {
@@ -72,28 +70,6 @@ pub fn explain_tree(rt: &HostRuntime, tree: &TreeFiles<&HostRuntime>, trouble: O
     explain(rt, trouble);
 }
 
-// The bytes of a row of chips in memory.
-fn bytes_of<C: HostChip>(alloc: Global, row: &mut ChipRow<C>) -> Result<Vec<u8>, Stop> {
-    let mut bytes = vec![in alloc; 0u8; row.size() as usize]?;
-    if bytes.is_empty() {
-        return Ok(bytes);
-    }
-    match row.read(0, &mut bytes) {
-        Ok(()) => Ok(bytes),
-        Err(Failed) => Err(Stop::Status(BOARD_FAULT)),
-    }
-}
-
-// Writes the image's file, which is made if it isn't there. What it has behind the volume is cut off.
-fn write_file(rt: &HostRuntime, path: &str, bytes: &[u8]) -> io::Result<()> {
-    let mut file = OpenOptions::new().write(true).create(true).open(rt, path)?;
-    file.write_all(bytes)?;
-    if file.metadata()?.len() > bytes.len() as u64 {
-        file.set_len(bytes.len() as u64)?;
-    }
-    Ok(())
-}
-
 // Ends a line that makes an image of a tree.
 fn end_pack<'r, C: HostChip>(
     rt: &'r HostRuntime,
@@ -134,12 +110,9 @@ pub fn pack(rt: &HostRuntime, meant: &mut Meant<'_>) -> Result<u8, Stop> {
     let mut folder = StdFolder::new(&tree, rt.alloc(), top)?;
     let chip = blank_chip(rt.alloc(), meant.size, meant.unit)?;
     let row = row_of(rt, meant, chip)?;
-    let mut told = give_on(rt, meant, row, b"", &mut folder, &mut memory, Guard::Open)?;
+    let told = give_on(rt, meant, row, b"", &mut folder, &mut memory, Guard::Open)?;
     if told.status == 0 && !meant.asked.is_dry {
-        let bytes = bytes_of(rt.alloc(), &mut told.row)?;
-        if let Err(why) = write_file(rt, meant.image, &bytes) {
-            return Err(fail(rt, meant.image, &Trouble::Write(why), BOARD_FAULT));
-        }
+        save_copy(rt, meant, &told.row)?;
     }
     Ok(end_pack(rt, meant, &tree, &mut folder, &told))
 }
@@ -147,7 +120,7 @@ pub fn pack(rt: &HostRuntime, meant: &mut Meant<'_>) -> Result<u8, Stop> {
 // Tells what would be put into the tree.
 fn unpack_dry(rt: &HostRuntime, meant: &Meant<'_>, memory: &mut Memory) -> Result<u8, Stop> {
     let mut folder = MemFolder::new(rt.alloc());
-    let row = row_of(rt, meant, chip_file(rt, meant, Access::Read))?;
+    let row = row_of(rt, meant, chip_file(meant)?)?;
     let told = give_on(rt, meant, row, b"", &mut folder, memory, Guard::Open)?;
     Ok(end_told(rt, meant, &told))
 }
