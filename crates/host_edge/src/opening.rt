@@ -7,6 +7,7 @@ use std::io::{Error, ErrorKind};
 use std::os::unix::fs::MetadataExt;
 
 /// A folder of the host, and the chips that none of its files may be.
+#[derive(Drop)]
 pub(crate) struct Place<'p, R: Files> {
     pub(crate) rt: &'p R,
     pub(crate) alloc: Global,

@@ -3,7 +3,6 @@ ghost use Rattle.std.specs.Prelude.{◌≡◌, ℕ, ◌+◌, ◌^◌, ◌<◌, �
 ghost use Rattle.folder_core.specs.Files.{name_at, size_at, IsFirst, NoneNamed, size_before};
 ghost use Rattle.host_edge.specs.Host.{host_entries, HostPuts};
 
-use crate::check_limit;
 use crate::host_file::{HostFile, name_of};
 use crate::names::path_of;
 use crate::opening::{Current, Place, none_open, not_made, turn_to};
@@ -70,7 +69,6 @@ fn put_one<R: Files>(
     if piece.len() as u64 > u64::MAX - before {
         return Err(Error::from(ErrorKind::FileTooLarge));
     }
-    check_limit(before, piece.len() as u64)?;
     turn_to(place, current, i, file.path.as_str(), true)?;
     let Some(open) = current else {
         return Err(none_open());
@@ -138,7 +136,6 @@ fn make<R: Files>(
     if files.len() == u32::MAX as usize {
         return Err(Error::from(ErrorKind::FileTooLarge));
     }
-    check_limit(0, piece.len() as u64)?;
     let path = path_of(place.alloc, place.path, name)?;
     let name = name.to_vec(place.alloc)?;
     files.reserve(1)?;

@@ -30,7 +30,7 @@ use fd_table::FdSlot;
 use front::begin_front;
 use front_words::is_own;
 use help::{HELP, VERSION};
-use host_edge::{Access, FileChip, StdBoard, StdFolder, StdSource, Trouble};
+use host_edge::{Access, FileChip, FileId, Shown, StdBoard, StdFolder, StdSource, Trouble};
 use look::{Seen, look_before};
 use nor_core::{Failed, MemErr};
 use rehearse_tool::rehearse_tool;
@@ -234,15 +234,32 @@ fn open_row(
     }
 }
 
+// The chip files, as far as they are there: no file of the folder may be one of them.
+fn chip_ids(rt: &HostRuntime, words: &[String]) -> Result<Vec<FileId>, AllocError> {
+    let mut ids = Vec::new(rt.alloc());
+    for path in chip_word(words).split(',') {
+        if let Ok(id) = FileId::at(rt, path) {
+            ids.push(id)?;
+        }
+    }
+    Ok(ids)
+}
+
 // The folder that is written or read; another command asks for none, and none is listed then.
 fn folder_of<'r>(
     rt: &'r HostRuntime,
     words: &[String],
 ) -> Result<StdFolder<&'r HostRuntime>, Refusal> {
-    match word(words, 0) {
-        "extract" | "make" => Ok(StdFolder::new(rt, rt.alloc(), word(words, FOLDER_WORD))?),
-        _ => Ok(StdFolder::unlisted(rt, rt.alloc())),
+    let verb = word(words, 0);
+    if !matches!(verb, "extract" | "make") {
+        return Ok(StdFolder::unlisted(rt, rt.alloc()));
     }
+    let path = word(words, FOLDER_WORD);
+    let mut folder = StdFolder::apart_from(rt, rt.alloc(), path, chip_ids(rt, words)?)?;
+    if verb == "make" {
+        folder.refuse_chips();
+    }
+    Ok(folder)
 }
 
 // Says on standard error what failed, if anything did.
@@ -307,7 +324,7 @@ fn explain_damaged(rt: &impl Eprint, seen: Option<Seen>) {
 // Says on standard error what of the folder was passed over, and what is wrong with a name.
 fn explain_folder<'r>(rt: &impl Eprint, folder: &StdFolder<&'r HostRuntime>, status: u8) {
     for passed in folder.passed_over() {
-        let path = passed.path.as_str();
+        let path = Shown(passed.path.as_str());
         let kind = if passed.is_folder {
             "folder"
         } else {
@@ -319,6 +336,15 @@ fn explain_folder<'r>(rt: &impl Eprint, folder: &StdFolder<&'r HostRuntime>, sta
         if let Some(bad) = folder.bad_name() {
             let _said = eprintln!(rt; "spiffs: {bad}");
         }
+    }
+}
+
+// Says on standard error what failed of the folder, and on which path.
+fn explain_folder_fault<'r>(rt: &impl Eprint, folder: &StdFolder<&'r HostRuntime>) {
+    if let Some(trouble) = folder.trouble() {
+        let path = Shown(folder.failed_path());
+        // (if standard error fails too there is nobody to tell)
+        let _said = eprintln!(rt; "spiffs: {path}: {trouble}");
     }
 }
 
@@ -385,7 +411,7 @@ fn run(
     match status {
         BOARD_FAULT => explain_board(rt, words, &board),
         SCRIPT_FAULT => explain(rt, script.trouble()),
-        FOLDER_FAULT => explain(rt, folder.trouble()),
+        FOLDER_FAULT => explain_folder_fault(rt, &folder),
         0 | FULL | BAD_NAME if word(words, 0) == "make" => explain_folder(rt, &folder, status),
         _ => explain_status(rt, words, status),
     }
