@@ -149,8 +149,6 @@ class Edition:
             return f"self::{word}"
         if word == "std":
             return HOST if is_hosted else "core" if package.no_std else word
-        if word == "libc":
-            return f"{HOST}::libc"
         home = self.home.get(word)
         if home is None:
             return word

@@ -1,5 +1,5 @@
 -- What a line writes to is one of those that were found, and nothing speaks against it.
-use Rattle.std.proofs.Common.{◌≡◌, ℕ, ◌<◌, ◌≤◌, zero, suc, List, [], ◌∷◌, length, eqb, Bool, true, false, cond, refl, sym, arith, Option, Some, None, Result, Ok, Err}
+use Rattle.std.proofs.Common.{◌≡◌, ℕ, ◌<◌, ◌≤◌, zero, suc, List, [], ◌∷◌, length, eqb, Bool, true, false, cond, refl, sym, subst, arith, Option, Some, None, Result, Ok, Err}
 use Rattle.std.specs.Prelude.{is_none, not, nat_lt, nat_le, ◌&&◌, ◌||◌, Contains}
 use Rattle.std.specs.List.{list_all}
 use Rattle.std.proofs.lemmas.Bool.{false≢true, leb-false, ltb-false}
@@ -11,7 +11,7 @@ use Rattle.front_words.specs.declared.settling.Volume.{Volume}
 use Rattle.front_words.specs.declared.settling.Unsettled.{Unsettled}
 use Rattle.front_words.specs.declared.settling.Unsettled.TheVariants.{AnyMeta, Spoiled, Doubled, Harmed}
 use Rattle.front_words.specs.Asking.{changes}
-use Rattle.front_words.specs.Settling.{no_rival, writes, edits, is_doubled, is_harmed, unless_harmed, none_sure, sure_of, sure, told_volume, chosen, found_volume, with_meta}
+use Rattle.front_words.specs.Settling.{no_rival, writes, edits, is_doubled, is_harmed, unless_harmed, none_sure, alone_in, sure_by, sure, told_volume, chosen, found_volume, with_meta}
 use Rattle.front_words.specs.Settling.{known_page, known_block, known_meta, known_magic, agreeing, settled_by, settled, needs_found, reached, IsSafe, MayBeWritten}
 use Rattle.front_words.proofs.Keeping.{reached_is}
 
@@ -63,23 +63,27 @@ none_ok (c ∷ rest) v h = cc
 in_tail : (c : Candidate) (rest : List Candidate) (x : Candidate) → Contains rest x → Contains (c ∷ rest) x
 in_tail c rest x (k, low, at) = (suc k, omega (arith, low), at)
 
--- the first of what is left, or one behind it
-this_safe : (asked : Asked) (all : List Candidate) (c : Candidate) (rest : List Candidate) (v : Volume) → Contains all c → (sure_of asked all rest ≡ Ok v → MayBeWritten asked all v) → (b : Bool) →
-    list_all (no_rival c) all ≡ b → cond b (unless_harmed asked c) (sure_of asked all rest) ≡ Ok v → MayBeWritten asked all v
-this_safe asked all c rest v there later true alone h = (c, there, safe asked all c v alone h)
-this_safe asked all c rest v there later false rivals h = later h
+-- one of what is left, of which none leaves doubt
+alone_is : (all left : List Candidate) (c : Candidate) → alone_in all left ≡ Some c → Contains left c × (list_all (no_rival c) all ≡ true)
+alone_is all [] c h = cc
+alone_is all (d ∷ rest) c h = go (λ later. alone_is all rest c later) (list_all (no_rival d) all) refl h
+  where
+    go : (alone_in all rest ≡ Some c → Contains rest c × (list_all (no_rival c) all ≡ true)) → (b : Bool) → list_all (no_rival d) all ≡ b → cond b (Some d) (alone_in all rest) ≡ Some c →
+        Contains (d ∷ rest) c × (list_all (no_rival c) all ≡ true)
+    go later true alone e =
+        let same : d ≡ c = cc in
+        ((zero, omega arith, same), subst (λ (x : Candidate). list_all (no_rival x) all ≡ true) same alone)
+    go later false rivals e = let w = later e in (in_tail d rest c w.0, w.1)
 
--- what is left is of all
-sure_safe : (asked : Asked) (all left : List Candidate) (v : Volume) → ((x : Candidate) → Contains left x → Contains all x) → sure_of asked all left ≡ Ok v → MayBeWritten asked all v
-sure_safe asked all [] v inside h = absurd (none_ok all v h)
-sure_safe asked all (c ∷ rest) v inside h =
-    this_safe asked all c rest v (inside c (zero, omega arith, refl)) (λ later. sure_safe asked all rest v (λ x there. inside x (in_tail c rest x there)) later) (list_all (no_rival c) all) refl h
+sure_safe : (asked : Asked) (all : List Candidate) (v : Volume) (alone : Option Candidate) → alone_in all all ≡ alone → sure_by asked all alone ≡ Ok v → MayBeWritten asked all v
+sure_safe asked all v None is h = absurd (none_ok all v h)
+sure_safe asked all v (Some c) is h = let w = alone_is all all c is in (c, w.0, safe asked all c v w.1 h)
 
 told_safe : (asked : Asked) (found : List Candidate) (v : Volume) → writes asked.word asked.repairs ≡ true → told_volume asked (agreeing asked found) ≡ Ok v → MayBeWritten asked (agreeing asked found) v
 told_safe asked found v wr h = go (writes asked.word asked.repairs) wr h
   where
     go : (b : Bool) → b ≡ true → cond b (sure asked (agreeing asked found)) (chosen asked (agreeing asked found)) ≡ Ok v → MayBeWritten asked (agreeing asked found) v
-    go true e k = sure_safe asked (agreeing asked found) (agreeing asked found) v (λ x there. there) k
+    go true e k = sure_safe asked (agreeing asked found) v (alone_in (agreeing asked found) (agreeing asked found)) refl k
     go false e k = absurd (false≢true e)
 
 by_safe : (asked : Asked) (length : ℕ) (found : List Candidate) (v : Volume) (page block meta : Option ℕ) (magic : Option MagicKind) → writes asked.word asked.repairs ≡ true →

@@ -90,12 +90,6 @@ with_meta asked c None = if changes asked.word && not (c.first_meta == c.last_me
 abbrev pub as_good : Candidate → Candidate → Bool
 as_good c d = (c.whole == d.whole) && (c.damaged == d.damaged)
 
--- the best of several, the best first, if one is best
-abbrev pub chosen : Asked → List Candidate → Result Volume Unsettled
-chosen asked [] = Err NoneFound
-chosen asked (c ∷ []) = with_meta asked c (known_meta asked)
-chosen asked (c ∷ d ∷ rest) = if as_good c d then Err Several else with_meta asked c (known_meta asked)
-
 -- two that were found are the same
 abbrev pub same_numbers : Candidate → Candidate → Bool
 same_numbers c d = (c.at == d.at) && (c.page == d.page) && (c.block == d.block) && (c.blocks == d.blocks) && fits_magic (Some c.magic) d.magic
@@ -145,13 +139,29 @@ none_sure [] = Err NoneFound
 none_sure (c ∷ rest) = Err Several
 
 -- the first of some of which none of all leaves doubt
-abbrev pub sure_of : Asked → (all left : List Candidate) → Result Volume Unsettled
-sure_of asked all [] = none_sure all
-sure_of asked all (c ∷ rest) = if list_all (no_rival c) all then unless_harmed asked c else sure_of asked all rest
+abbrev pub alone_in : (all left : List Candidate) → Option Candidate
+alone_in all [] = None
+alone_in all (c ∷ rest) = if list_all (no_rival c) all then Some c else alone_in all rest
 
--- the one of those that agree that a line may change
+-- the one of those that agree that a line may write to
+abbrev pub sure_by : Asked → List Candidate → Option Candidate → Result Volume Unsettled
+sure_by asked all None = none_sure all
+sure_by asked all (Some c) = unless_harmed asked c
+
 abbrev pub sure : Asked → List Candidate → Result Volume Unsettled
-sure asked all = sure_of asked all all
+sure asked all = sure_by asked all (alone_in all all)
+
+-- the one that is read where the best two read as much: that of which none leaves doubt
+abbrev pub chosen_by : Asked → Option Candidate → Result Volume Unsettled
+chosen_by asked None = Err Several
+chosen_by asked (Some c) = with_meta asked c (known_meta asked)
+
+-- the best of several, the best first
+abbrev pub chosen : Asked → List Candidate → Result Volume Unsettled
+chosen asked [] = Err NoneFound
+chosen asked (c ∷ []) = with_meta asked c (known_meta asked)
+chosen asked (c ∷ d ∷ rest) =
+    if as_good c d then chosen_by asked (alone_in (c ∷ d ∷ rest) (c ∷ d ∷ rest)) else with_meta asked c (known_meta asked)
 
 -- the one that a line means: one that it writes to has to be sure
 abbrev pub told_volume : Asked → List Candidate → Result Volume Unsettled

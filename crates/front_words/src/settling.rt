@@ -5,7 +5,7 @@ ghost use Rattle.front_words.specs.Settling.{known_meta as the_meta, known_magic
 ghost use Rattle.front_words.specs.Settling.{fits_magic, same_magic, agrees as the_agreement, found_volume as the_volume, with_meta as the_meta_of, as_good};
 ghost use Rattle.front_words.specs.Settling.{chosen, agreeing, end_of, reached, settled, needs_found};
 ghost use Rattle.front_words.specs.Settling.{same_numbers, lies_in as the_lying, no_rival, writes as the_writing, edits as the_edit};
-ghost use Rattle.front_words.specs.Settling.{is_doubled as the_doubled, is_harmed as the_harmed, unless_harmed as the_unharmed, none_sure as the_none, sure, told_volume};
+ghost use Rattle.front_words.specs.Settling.{is_doubled as the_doubled, is_harmed as the_harmed, unless_harmed as the_unharmed, none_sure as the_none, alone_in, chosen_by as the_choice, sure, told_volume};
 
 use crate::asked::{Asked, changes, makes};
 use crate::word::{Preset, Word};
@@ -310,19 +310,6 @@ fn is_as_good(one: &Candidate, other: &Candidate) -> bool
     one.whole == other.whole && one.damaged == other.damaged
 }
 
-// The best that was found, if one is best.
-fn choose(asked: &Asked, found: &[Candidate]) -> Result<Volume, Unsettled>
-    ensures { result ≡ chosen asked.now (agreeing asked.now found.now) }
-{
-    let Some((best, rest)) = next_agreeing(asked, found) else {
-        return Err(Unsettled::NoneFound);
-    };
-    match next_agreeing(asked, rest) {
-        Some((second, _)) if is_as_good(&best, &second) => Err(Unsettled::Several),
-        _ => with_meta(asked, &best),
-    }
-}
-
 // Whether two that were found are the same.
 fn is_same(one: &Candidate, other: &Candidate) -> bool
     ensures { result ≡ same_numbers one.now other.now }
@@ -429,19 +416,52 @@ fn none_sure(asked: &Asked, found: &[Candidate]) -> Result<Volume, Unsettled>
     }
 }
 
+// The first of those that agree of which no other leaves doubt.
+fn find_alone(asked: &Asked, found: &[Candidate]) -> Option<Candidate>
+    ensures { result ≡ alone_in (agreeing asked.now found.now) (agreeing asked.now found.now) }
+{
+    let mut left = found;
+    while let Some((next, rest)) = next_agreeing(asked, left) {
+        if is_sure(asked, found, &next) {
+            return Some(next);
+        }
+        left = rest;
+    }
+    None
+}
+
 /// Of the volumes that were found the one of which no other leaves doubt, or why a line that writes takes none: it is told also to those that
 /// only read.
 pub fn choose_sure(asked: &Asked, found: &[Candidate]) -> Result<Volume, Unsettled>
     ensures { result ≡ sure asked.now (agreeing asked.now found.now) }
 {
-    let mut left = found;
-    while let Some((next, rest)) = next_agreeing(asked, left) {
-        if is_sure(asked, found, &next) {
-            return unless_harmed(asked, &next);
-        }
-        left = rest;
+    match find_alone(asked, found) {
+        Some(alone) => unless_harmed(asked, &alone),
+        None => none_sure(asked, found),
     }
-    none_sure(asked, found)
+}
+
+// The one that was found and that is read where the best two read as much.
+fn choose_alone(asked: &Asked, found: &[Candidate]) -> Result<Volume, Unsettled>
+    ensures { result ≡ the_choice asked.now (alone_in (agreeing asked.now found.now) (agreeing asked.now found.now)) }
+{
+    match find_alone(asked, found) {
+        Some(alone) => with_meta(asked, &alone),
+        None => Err(Unsettled::Several),
+    }
+}
+
+// The best that was found.
+fn choose(asked: &Asked, found: &[Candidate]) -> Result<Volume, Unsettled>
+    ensures { result ≡ chosen asked.now (agreeing asked.now found.now) }
+{
+    let Some((best, rest)) = next_agreeing(asked, found) else {
+        return Err(Unsettled::NoneFound);
+    };
+    match next_agreeing(asked, rest) {
+        Some((second, _)) if is_as_good(&best, &second) => choose_alone(asked, found),
+        _ => with_meta(asked, &best),
+    }
 }
 
 // The one that was found and that is meant.

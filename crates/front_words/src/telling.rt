@@ -20,6 +20,7 @@ fn option_name(slot: Slot) -> &'static str {
         Slot::Repair => "--repair",
         Slot::Svg => "--svg",
         Slot::Force => "--force",
+        Slot::RawNames => "--raw-names",
         Slot::Create => "-c",
         Slot::Unpack => "-u",
         Slot::List => "-l",

@@ -37,6 +37,11 @@ impl<W: Write + Drop, C: Chip> StdBoard<W, C> {
         }
     }
 
+    /// The row.
+    pub fn row(&self) -> &ChipRow<C> {
+        &self.row
+    }
+
     /// The row and the writer.
     pub fn give_back(self) -> (ChipRow<C>, W) {
         let StdBoard {

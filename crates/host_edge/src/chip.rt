@@ -1,6 +1,7 @@
 ghost use Rattle.std.specs.Prelude.{[], ◌+◌, ◌<◌, ◌^◌};
 
 use crate::file::Window;
+use crate::limit::SizeLimit;
 use crate::trouble::note;
 use crate::{HeldFile, Trouble};
 use chip_row::{Chip, ChipState};
@@ -56,7 +57,7 @@ impl FileChip {
         if held.is_device() && length < u64::from(size) {
             return FileChip::failed(Trouble::Small { length, size }, size, unit);
         }
-        let window = Window::new(length, held.is_device());
+        let window = Window::new(length, held.is_device(), held.limit());
         FileChip {
             held: Some(held),
             window,
@@ -73,7 +74,7 @@ impl FileChip {
     pub fn failed(why: Trouble, size: u32, unit: u32) -> FileChip {
         FileChip {
             held: None,
-            window: Window::new(0, false),
+            window: Window::new(0, false, SizeLimit::none()),
             size,
             unit,
             last: 0,
@@ -98,6 +99,34 @@ impl FileChip {
         match &self.held {
             Some(held) => held.is_device(),
             None => false,
+        }
+    }
+
+    /// The whole file as a chip of its own, in units of one byte, where it has bytes and no more than a chip may have.
+    pub fn whole(&self) -> Option<FileChip> {
+        let held = self.held.as_ref()?;
+        match u32::try_from(self.window.end()) {
+            Ok(0) | Err(_) => None,
+            Ok(size) => Some(held.chip(size, 1)),
+        }
+    }
+
+    /// The same file as a chip of another size, before anything was read or written.
+    pub fn resized(self, size: u32, unit: u32) -> FileChip {
+        let FileChip {
+            held,
+            window: _,
+            size: _,
+            unit: _,
+            last: _,
+            reads: _,
+            faults: _,
+            trouble,
+        } = self;
+        match (held, trouble) {
+            (Some(held), _) => FileChip::over(held, size, unit),
+            (None, Some(why)) => FileChip::failed(why, size, unit),
+            (None, None) => FileChip::failed(Trouble::Shorter, size, unit),
         }
     }
 

@@ -1,6 +1,6 @@
 ghost use Rattle.std.specs.Prelude.{◌≡◌, ◌+◌, ◌<◌, ◌≤◌, ◌^◌, length, IfOk};
 
-use crate::limit::write_limited;
+use crate::limit::SizeLimit;
 use std::fs::File;
 use std::io;
 use std::io::{Error, ErrorKind};
@@ -22,6 +22,8 @@ pub(crate) struct Window {
     end: u64,
     // Whether the file is a device, which is never lengthened.
     is_device: bool,
+    // How far it may be written.
+    limit: SizeLimit,
     // Whether anything was written.
     has_written: bool,
     bytes: [u8; WINDOW],
@@ -41,14 +43,19 @@ fn piece_of(at: u64, count: usize) -> (u64, usize, usize)
     )
 }
 
+// The error for a file that has fewer bytes than it had.
+fn shorter() -> Error {
+    Error::new(
+        ErrorKind::UnexpectedEof,
+        "it has become shorter, since another program has changed it",
+    )
+}
+
 /// Reads bytes that the file has; where it has fewer it has become shorter, which is a fault.
 pub(crate) fn read_known(file: &File, at: u64, into: &mut [u8]) -> io::Result<()> {
     match file.read_exact_at(into, at) {
         Ok(()) => Ok(()),
-        Err(why) if why.kind() == ErrorKind::UnexpectedEof => Err(Error::new(
-            ErrorKind::UnexpectedEof,
-            "it has become shorter, since another program has changed it",
-        )),
+        Err(why) if why.kind() == ErrorKind::UnexpectedEof => Err(shorter()),
         Err(why) => Err(why),
     }
 }
@@ -65,32 +72,24 @@ fn read_whole(file: &File, end: u64, at: u64, into: &mut [u8]) -> io::Result<()>
 }
 
 // Appends 0xFF to the file from its end on until it reaches a place. Answers how long the file is then.
-fn append_blank(file: &File, end: u64, at: u64) -> io::Result<u64> {
+fn append_blank(file: &File, limit: SizeLimit, end: u64, at: u64) -> io::Result<u64> {
     let mut end = end;
     while end < at {
         let piece = (at - end).min(WINDOW as u64);
-        write_limited(file, end, &BLANK[..piece as usize])?;
+        limit.write_at(file, end, &BLANK[..piece as usize])?;
         end += piece;
     }
     Ok(end)
 }
 
-// Writes bytes at a place of a plain file or a device.
-fn write_to(file: &File, is_device: bool, at: u64, from: &[u8]) -> io::Result<()> {
-    if is_device {
-        file.write_all_at(from, at)
-    } else {
-        write_limited(file, at, from)
-    }
-}
-
 impl Window {
     /// Of a file of that length. Nothing is kept yet.
-    pub(crate) fn new(end: u64, is_device: bool) -> Window {
+    pub(crate) fn new(end: u64, is_device: bool, limit: SizeLimit) -> Window {
         Window {
             start: None,
             end,
             is_device,
+            limit,
             has_written: false,
             bytes: [0xFF; WINDOW],
         }
@@ -130,13 +129,23 @@ impl Window {
         Ok(())
     }
 
-    // Sees to it that so many bytes may be written at a place. To a plain file 0xFF is appended until it reaches there: bytes past its end
-    // count as erased, and those that a write leaves out would otherwise read as zeros.
+    // Sees to it that bytes may be written at a place of a plain file: 0xFF is appended until it reaches there, since bytes past its end
+    // count as erased, and those that a write leaves out would otherwise read as zeros. So would those that it has lost.
+    fn reach(&mut self, file: &File, at: u64) -> io::Result<()> {
+        if file.metadata()?.len() < self.end {
+            return Err(shorter());
+        }
+        self.end = append_blank(file, self.limit, self.end, at)?;
+        Ok(())
+    }
+
+    // Sees to it that so many bytes may be written at a place.
     fn make_ready(&mut self, file: &File, at: u64, count: u64) -> io::Result<()> {
         self.has_written = true;
         if !self.is_device {
-            self.end = append_blank(file, self.end, at)?;
-        } else if at.saturating_add(count) > self.end {
+            return self.reach(file, at);
+        }
+        if at.saturating_add(count) > self.end {
             return Err(Error::new(ErrorKind::StorageFull, "the device ends there"));
         }
         Ok(())
@@ -145,7 +154,7 @@ impl Window {
     // Writes bytes at a place of the file.
     fn write_at(&mut self, file: &File, at: u64, from: &[u8]) -> io::Result<()> {
         self.make_ready(file, at, from.len() as u64)?;
-        write_to(file, self.is_device, at, from)?;
+        self.limit.write_at(file, at, from)?;
         self.end = self.end.max(at.saturating_add(from.len() as u64));
         Ok(())
     }
@@ -164,7 +173,7 @@ impl Window {
         for (byte, asked) in piece.iter_mut().zip(from) {
             *byte &= *asked;
         }
-        write_to(file, self.is_device, at, piece)?;
+        self.limit.write_at(file, at, piece)?;
         self.end = self.end.max(at.saturating_add(count as u64));
         self.start = Some(start);
         Ok(count)

@@ -4,10 +4,10 @@ ghost use Rattle.host_edge.specs.Host.{host_entries, few_entries};
 
 use crate::bad_name::{BadName, first_bad};
 use crate::host_file::{HostFile, Listed, PassedOver, list, name_of, read_at, size_of};
-use crate::opening::{Current, Place};
+use crate::opening::{Bounds, Current, Place};
 use crate::put::{path_for, put_in};
 use crate::trouble::note;
-use crate::{FileId, Trouble};
+use crate::Trouble;
 use folder_core::{Folder, FolderState};
 use nor_core::{Failed, MemErr};
 use std::alloc::{AllocError, Global};
@@ -26,8 +26,8 @@ pub struct StdFolder<R: Files + Drop> {
     path: String,
     files: Vec<HostFile>,
     passed_over: Vec<PassedOver>,
-    // The chips that no file may be, and the path of a file that is one.
-    chips: Vec<FileId>,
+    bounds: Bounds,
+    // The path of a file that is a chip.
     chip_path: Option<String>,
     // The file that was read or written last.
     current: Option<Current<R::File>>,
@@ -44,13 +44,13 @@ fn place_of<'p, R: Files>(
     rt: &'p R,
     alloc: Global,
     path: &'p str,
-    chips: &'p [FileId],
+    bounds: &'p Bounds,
 ) -> Place<'p, R> {
     Place {
         rt,
         alloc,
         path,
-        chips,
+        bounds,
     }
 }
 
@@ -72,18 +72,18 @@ impl<R: Files + Drop> StdFolder<R> {
     /// The folder of that path. `MemErr::Memory` comes for want of memory alone: a folder that can't be listed, or that
     /// has 2^32 files or more, makes every later call fail.
     pub fn new(rt: R, alloc: Global, path: &str) -> Result<StdFolder<R>, MemErr> {
-        StdFolder::apart_from(rt, alloc, path, Vec::new(alloc))
+        StdFolder::within(rt, alloc, path, Bounds::none(alloc))
     }
 
-    /// The folder of that path, as `new` has it, of which no file is read or written that is one of these chips.
-    pub fn apart_from(
+    /// The folder of that path, as `new` has it, whose files keep within these bounds.
+    pub fn within(
         rt: R,
         alloc: Global,
         path: &str,
-        chips: Vec<FileId>,
+        bounds: Bounds,
     ) -> Result<StdFolder<R>, MemErr> {
         let mut folder = StdFolder::unlisted(rt, alloc);
-        folder.chips = chips;
+        folder.bounds = bounds;
         let listed = folder.list(path);
         match listed {
             Ok(()) => Ok(folder),
@@ -119,7 +119,7 @@ impl<R: Files + Drop> StdFolder<R> {
             path: String::new(alloc),
             files: Vec::new(alloc),
             passed_over: Vec::new(alloc),
-            chips: Vec::new(alloc),
+            bounds: Bounds::none(alloc),
             chip_path: None,
             current: None,
             is_listed: false,
@@ -156,7 +156,7 @@ impl<R: Files + Drop> StdFolder<R> {
     // Lists the folder of that path.
     fn list(&mut self, path: &str) -> io::Result<()> {
         self.path = String::from_str(self.alloc, path)?;
-        let place = place_of(&self.rt, self.alloc, path, self.chips.as_slice());
+        let place = place_of(&self.rt, self.alloc, path, &self.bounds);
         let Listed {
             files,
             passed_over,
@@ -202,8 +202,7 @@ impl<R: Files + Drop> Folder for StdFolder<R> {
 
     fn read(&mut self, i: u32, at: u64, into: &mut [u8]) -> Result<(), Failed> {
         let i = i as usize;
-        let chips = self.chips.as_slice();
-        let place = place_of(&self.rt, self.alloc, self.path.as_str(), chips);
+        let place = place_of(&self.rt, self.alloc, self.path.as_str(), &self.bounds);
         let path = self.files[i].path.as_str();
         match read_at(&place, &mut self.current, i, path, at, into) {
             Ok(()) => Ok(()),
@@ -226,8 +225,7 @@ impl<R: Files + Drop> Folder for StdFolder<R> {
             self.faults = self.faults.saturating_add(1);
             return Err(Failed);
         }
-        let chips = self.chips.as_slice();
-        let place = place_of(&self.rt, self.alloc, self.path.as_str(), chips);
+        let place = place_of(&self.rt, self.alloc, self.path.as_str(), &self.bounds);
         match put_in(
             &place,
             &mut self.current,

@@ -1,6 +1,7 @@
 //! A chip file of the host that is held: opened once, locked, and of a known length.
 use crate::chip::{Access, FileChip};
 use crate::file::read_known;
+use crate::limit::SizeLimit;
 use crate::{NoChip, Trouble};
 use std::fs::{File, Metadata, OpenOptions};
 use std::io::{Error, ErrorKind, Seek, SeekFrom};
@@ -19,6 +20,7 @@ pub struct HeldFile {
     length: u64,
     is_device: bool,
     writes: bool,
+    limit: SizeLimit,
 }
 
 // What is told of a file, where it is no chip.
@@ -119,21 +121,24 @@ impl HeldFile {
             check_kind(&told)?;
             lock(&file, access)?;
             if leads_to(rt, path, &told) {
-                return HeldFile::locked(file, access);
+                return HeldFile::locked(file, access, SizeLimit::of(rt));
             }
         }
         Err(Trouble::Busy)
     }
 
-    // The file that is locked.
-    fn locked(file: File, access: Access) -> Result<HeldFile, Trouble> {
+    // The file that is locked, where plain files have that limit.
+    fn locked(file: File, access: Access, limit: SizeLimit) -> Result<HeldFile, Trouble> {
         let told = file.metadata().map_err(Trouble::Open)?;
         let length = length_of(&file, &told).map_err(Trouble::Open)?;
+        let is_device = !told.is_file();
+        let limit = if is_device { SizeLimit::none() } else { limit };
         Ok(HeldFile {
             file,
             length,
-            is_device: !told.is_file(),
+            is_device,
             writes: access != Access::Read,
+            limit,
         })
     }
 
@@ -175,6 +180,7 @@ impl HeldFile {
             length,
             is_device: self.is_device,
             writes: self.writes,
+            limit: self.limit,
         })
     }
 
@@ -198,6 +204,11 @@ impl HeldFile {
             Ok(own) => is_one(&own, told),
             Err(_) => false,
         }
+    }
+
+    // How far it may be written.
+    pub(crate) fn limit(&self) -> SizeLimit {
+        self.limit
     }
 
     // The open file.

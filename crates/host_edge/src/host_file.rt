@@ -78,7 +78,7 @@ pub(crate) fn list<R: Files>(place: &Place<'_, R>) -> io::Result<Listed>
         let metadata = entry.metadata()?;
         let path = String::from_str(alloc, entry.path().as_str())?;
         if metadata.is_file() {
-            if place.chips.contains(&FileId::of(&metadata)) && is_earlier(&path, &chip) {
+            if place.bounds.chips.contains(&FileId::of(&metadata)) && is_earlier(&path, &chip) {
                 chip = Some(String::from_str(alloc, path.as_str())?);
             }
             let name = decoded(alloc, entry.file_name().as_bytes())?;

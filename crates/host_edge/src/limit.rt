@@ -1,38 +1,78 @@
 //! Writing to a file without passing the limit that the process has for a file's size: there the host would end it by a signal.
 use std::fs::File;
-use std::io;
-use std::io::Error;
+use std::io::{Error, Read};
 use std::os::unix::fs::FileExt;
+use std::rt::Files;
+use std::{fs, io, str};
 
-/// The number by which the host is asked for that limit.
-const FILE_SIZE: i32 = 1;
+/// Where the host tells the limits of the process, one a line.
+const LIMITS: &str = "/proc/self/limits";
+
+/// How the line of this limit begins; what holds now stands behind it.
+const FILE_SIZE: &str = "Max file size";
+
+/// The most bytes of that text that are read.
+const TEXT: usize = 4096;
 
 /// The number by which the host says that a file would be too large.
 const TOO_LARGE: i32 = 27;
 
-// Where a write to a plain file has to end, in bytes from the file's beginning.
-fn size_limit() -> u64 {
-    let mut limit = libc::types::rlimit {
-        rlim_cur: u64::MAX,
-        rlim_max: u64::MAX,
-    };
-    if libc::getrlimit(FILE_SIZE, &mut limit) == 0 {
-        limit.rlim_cur
-    } else {
-        u64::MAX
-    }
+/// Where a write to a plain file has to end, in bytes from the file's beginning.
+#[derive(Clone, Copy, Debug, PartialEq, Eq)]
+pub struct SizeLimit {
+    most: u64,
 }
 
-/// Whether so many bytes may be written to a plain file from a place on; else the host's own error for it, in place of its signal.
-pub fn check_limit(at: u64, count: u64) -> io::Result<()> {
-    if at.saturating_add(count) > size_limit() {
-        return Err(Error::from_raw_os_error(TOO_LARGE));
-    }
-    Ok(())
+// The limit that a line tells, if it tells that one, and there is one.
+fn limit_in(line: &str) -> Option<u64> {
+    let behind = line.strip_prefix(FILE_SIZE)?;
+    let word = behind.split_ascii_whitespace().next()?;
+    word.parse().ok()
 }
 
-/// Writes bytes at a place of a plain file.
-pub fn write_limited(file: &File, at: u64, from: &[u8]) -> io::Result<()> {
-    check_limit(at, from.len() as u64)?;
-    file.write_all_at(from, at)
+// The limit that a text tells.
+fn limit_of(text: &str) -> Option<u64> {
+    for line in text.lines() {
+        let limit = limit_in(line);
+        if limit.is_some() {
+            return limit;
+        }
+    }
+    None
+}
+
+// The limit that the host tells, if there is one.
+fn told_limit<R: Files>(rt: &R) -> Option<u64> {
+    let mut text = [0u8; TEXT];
+    let mut file = fs::open(rt, LIMITS).ok()?;
+    let count = file.read(&mut text).ok()?;
+    limit_of(str::from_utf8(text.get(..count)?).ok()?)
+}
+
+impl SizeLimit {
+    /// There is none: a device has another end.
+    pub fn none() -> SizeLimit {
+        SizeLimit { most: u64::MAX }
+    }
+
+    /// The limit that the process has now; none where the host doesn't tell it.
+    pub fn of<R: Files>(rt: &R) -> SizeLimit {
+        SizeLimit {
+            most: told_limit(rt).unwrap_or(u64::MAX),
+        }
+    }
+
+    /// Whether so many bytes may be written from a place on; if not, the error that the host has for it.
+    pub fn check(self, at: u64, count: u64) -> io::Result<()> {
+        if at.saturating_add(count) > self.most {
+            return Err(Error::from_raw_os_error(TOO_LARGE));
+        }
+        Ok(())
+    }
+
+    /// Writes bytes at a place of a file, if the limit lets it.
+    pub fn write_at(self, file: &File, at: u64, from: &[u8]) -> io::Result<()> {
+        self.check(at, from.len() as u64)?;
+        file.write_all_at(from, at)
+    }
 }

@@ -1,18 +1,37 @@
 //! Opening files of a host folder: each once, and looked at once it is open, before a byte of it is read or written.
-use crate::FileId;
+use crate::{FileId, SizeLimit};
 use std::alloc::Global;
 use std::fs::{Files, Metadata, OpenFile, OpenOptions};
 use std::io;
 use std::io::{Error, ErrorKind};
 use std::os::unix::fs::MetadataExt;
 
-/// A folder of the host, and the chips that none of its files may be.
+/// What no file of a folder may be, and how large one may become.
+#[derive(Drop)]
+pub struct Bounds {
+    /// The chips: no file of the folder that is one of them is read or written.
+    pub chips: Vec<FileId>,
+    /// The limit of the process.
+    pub limit: SizeLimit,
+}
+
+impl Bounds {
+    /// None.
+    pub fn none(alloc: Global) -> Bounds {
+        Bounds {
+            chips: Vec::new(alloc),
+            limit: SizeLimit::none(),
+        }
+    }
+}
+
+/// A folder of the host, and the bounds of its files.
 #[derive(Drop)]
 pub(crate) struct Place<'p, R: Files> {
     pub(crate) rt: &'p R,
     pub(crate) alloc: Global,
     pub(crate) path: &'p str,
-    pub(crate) chips: &'p [FileId],
+    pub(crate) bounds: &'p Bounds,
 }
 
 /// The file of a folder that is open, by its number among the files.
@@ -81,7 +100,7 @@ fn look<R: Files>(
     opened: &Metadata,
 ) -> io::Result<()> {
     want_same(place.rt, path, opened)?;
-    if place.chips.contains(&FileId::of(opened)) {
+    if place.bounds.chips.contains(&FileId::of(opened)) {
         return Err(refusal("it is the chip itself"));
     }
     if writes && opened.nlink() != 1 {

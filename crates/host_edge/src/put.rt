@@ -50,6 +50,20 @@ fn write_some<W: Write>(out: &mut W, piece: &[u8]) -> Written
     }
 }
 
+// Writes the first piece of a new file as far as that can be done.
+fn write_first<R: Files>(place: &Place<'_, R>, file: &mut R::File, piece: &[u8]) -> Written
+    ensures within { result.count ≤ length piece.now }
+    ensures whole { OnOk result.answer (result.count ≡ length piece.now) }
+{
+    match place.bounds.limit.check(0, piece.len() as u64) {
+        Ok(()) => write_some(file, piece),
+        Err(why) => Written {
+            count: 0,
+            answer: Err(why),
+        },
+    }
+}
+
 // Puts a piece into file `i`, which is there. Before its first piece the file is opened, looked at and only then emptied.
 fn put_one<R: Files>(
     place: &Place<'_, R>,
@@ -69,6 +83,7 @@ fn put_one<R: Files>(
     if piece.len() as u64 > u64::MAX - before {
         return Err(Error::from(ErrorKind::FileTooLarge));
     }
+    place.bounds.limit.check(before, piece.len() as u64)?;
     turn_to(place, current, i, file.path.as_str(), true)?;
     let Some(open) = current else {
         return Err(none_open());
@@ -140,7 +155,7 @@ fn make<R: Files>(
     let name = name.to_vec(place.alloc)?;
     files.reserve(1)?;
     let mut file = make_new(place, path.as_str())?;
-    let written = write_some(&mut file, piece);
+    let written = write_first(place, &mut file, piece);
     let size = written.count as u64;
     let i = files.len();
     *current = Some(Current {

@@ -1,5 +1,5 @@
 //! Putting a new file in the place of an old one, so that a cut of the host leaves one of both, whole.
-use crate::limit::write_limited;
+use crate::limit::SizeLimit;
 use crate::shown::Shown;
 use crate::trouble::{Step, Trouble};
 use crate::{Access, HeldFile};
@@ -82,24 +82,20 @@ fn failed(alloc: Global, step: Step, path: &str, why: io::Error) -> Trouble {
 // The path of the file beside, of that number.
 fn path_beside(alloc: Global, path: &str, number: u32) -> Result<String, AllocError> {
     let (folder, name) = parts_of(path);
-    let process = libc::getpid();
     let mut beside = format!(in alloc; "{folder}.")?;
     for letter in name.chars().take(NAMED) {
         beside.push(letter)?;
     }
-    if number == 0 {
-        write!(beside, ".spiffs-{process}")?;
-    } else {
-        write!(beside, ".spiffs-{process}-{number}")?;
-    }
+    write!(beside, ".spiffs-{number}")?;
     Ok(beside)
 }
 
-/// The file beside, and its path.
+/// The file beside, its path, and how far it may be written.
 #[derive(Drop)]
 struct Beside {
     file: File,
     path: String,
+    limit: SizeLimit,
 }
 
 // Makes the file beside, under a name that nothing has.
@@ -112,10 +108,16 @@ fn make_beside<R: Files<File = File>>(
     let mut options = OpenOptions::new();
     options.write(true).create_new(true);
     options.mode(mode);
-    for number in 0..NAMES {
+    for number in 1..NAMES {
         let beside = path_beside(alloc, path, number)?;
         match options.open(rt, beside.as_str()) {
-            Ok(file) => return Ok(Beside { file, path: beside }),
+            Ok(file) => {
+                return Ok(Beside {
+                    file,
+                    path: beside,
+                    limit: SizeLimit::of(rt),
+                });
+            }
             Err(why) if why.kind() == ErrorKind::AlreadyExists => {}
             Err(why) => return Err(failed(alloc, Step::Make, beside.as_str(), why)),
         }
@@ -125,10 +127,10 @@ fn make_beside<R: Files<File = File>>(
 }
 
 // Writes all bytes.
-fn write_bytes(file: &File, bytes: &[u8]) -> io::Result<()> {
+fn write_bytes(file: &File, limit: SizeLimit, bytes: &[u8]) -> io::Result<()> {
     let mut at = 0;
     for piece in bytes.chunks(PIECE) {
-        write_limited(file, at, piece)?;
+        limit.write_at(file, at, piece)?;
         at = at.saturating_add(piece.len() as u64);
     }
     Ok(())
@@ -149,10 +151,10 @@ fn give_mode(file: &File, old: Option<&Metadata>) -> io::Result<()> {
 }
 
 // Fills the file beside, and answers the step that failed and why, if one did.
-fn fill(file: &File, bytes: &[u8], old: Option<&Metadata>) -> Result<(), (Step, io::Error)> {
-    write_bytes(file, bytes).map_err(|why| (Step::Write, why))?;
-    give_mode(file, old).map_err(|why| (Step::Mode, why))?;
-    file.sync_all().map_err(|why| (Step::Sync, why))
+fn fill(beside: &Beside, bytes: &[u8], old: Option<&Metadata>) -> Result<(), (Step, io::Error)> {
+    write_bytes(&beside.file, beside.limit, bytes).map_err(|why| (Step::Write, why))?;
+    give_mode(&beside.file, old).map_err(|why| (Step::Mode, why))?;
+    beside.file.sync_all().map_err(|why| (Step::Sync, why))
 }
 
 // Fills the file beside and gives it the name of the old one. Where that fails it is removed.
@@ -165,7 +167,7 @@ fn put_beside<R: Files<File = File>>(
     bytes: &[u8],
 ) -> Result<(), Trouble> {
     let own = beside.path.as_str();
-    let done = match fill(&beside.file, bytes, old) {
+    let done = match fill(beside, bytes, old) {
         Ok(()) => fs::rename(rt, own, path).map_err(|why| (Step::Rename, why)),
         Err(why) => Err(why),
     };

@@ -85,8 +85,8 @@ pub enum Trouble {
     /// What was written can't be brought onto the host's medium.
     #[error("the chip file can't be synced: {0}")]
     Sync(io::Error),
-    /// The file can't be replaced, and stands as it was. The path is that of the step, and may be shown.
-    #[error("isn't replaced, and stands as it was: {path} can't be {step}: {why}")]
+    /// The file can't be replaced, and stands as it was, or isn't there. The path is that of the step, and may be shown.
+    #[error("nothing was changed: {path} can't be {step}: {why}")]
     Replace {
         step: Step,
         path: String,
@@ -99,7 +99,7 @@ pub enum Trouble {
     #[error("is a block device, and can't be replaced")]
     Device,
     /// There is no memory for the path of a file beside.
-    #[error("isn't replaced, and stands as it was: there is no memory for a path")]
+    #[error("nothing was changed: there is no memory for a path")]
     NoPath,
     /// Standard output takes nothing more.
     #[error("standard output can't be written: {0}")]

@@ -25,6 +25,8 @@ pub struct TreeFiles<R: Files + Drop> {
     // Whether names with control characters are names of files there too.
     is_raw: bool,
     listed: RefCell<Listed>,
+    // The paths of files that were put aside since their names hold control characters.
+    unwanted: RefCell<Vec<String>>,
     // The path of which the host was asked last.
     asked: RefCell<String>,
 }
@@ -90,6 +92,7 @@ impl<R: Files + Drop> TreeFiles<R> {
             makes,
             is_raw: false,
             listed: RefCell::new(Listed::none(alloc)),
+            unwanted: RefCell::new(Vec::new(alloc)),
             asked: RefCell::new(String::from_str(alloc, top)?),
         })
     }
@@ -118,6 +121,17 @@ impl<R: Files + Drop> TreeFiles<R> {
         };
         match listed.passed_over.get(number) {
             Some(passed) => Ok(Some(String::from_str(self.alloc, passed.path.as_str())?)),
+            None => Ok(None),
+        }
+    }
+
+    /// The path of a file that was put aside since its name holds control characters, by its number in the order in which they were made.
+    pub fn unwanted(&self, number: usize) -> io::Result<Option<String>> {
+        let Ok(unwanted) = self.unwanted.try_borrow() else {
+            return Err(is_lent());
+        };
+        match unwanted.get(number) {
+            Some(path) => Ok(Some(String::from_str(self.alloc, path.as_str())?)),
             None => Ok(None),
         }
     }
@@ -171,6 +185,11 @@ impl<R: Files + Drop> TreeFiles<R> {
         Ok(entries)
     }
 
+    // Whether a name is put aside since it holds control characters.
+    fn is_unwanted(&self, name: &[u8]) -> bool {
+        !self.is_raw && has_control(name)
+    }
+
     // The path of a file that is made with that name. It goes on behind the top by parts that lead down alone.
     fn new_path(&self, name: &[u8]) -> io::Result<String>
         ensures { IfOk result (λ path. IsBelow (string_bytes self.now.top) (string_bytes path)) }
@@ -178,9 +197,21 @@ impl<R: Files + Drop> TreeFiles<R> {
         let Ok(listed) = self.listed.try_borrow() else {
             return Err(is_lent());
         };
-        let is_unwanted = !self.is_raw && has_control(name);
-        let is_aside = is_unwanted || listed.files.clash_with(name)?;
+        let is_aside = self.is_unwanted(name) || listed.files.clash_with(name)?;
         Ok(new_path_in(self.alloc, self.top.as_str(), name, is_aside)?)
+    }
+
+    // Notes a file that was made, if its name holds control characters.
+    fn note_unwanted(&self, name: &[u8], path: &str) -> io::Result<()> {
+        if !self.is_unwanted(name) {
+            return Ok(());
+        }
+        let path = String::from_str(self.alloc, path)?;
+        let Ok(mut unwanted) = self.unwanted.try_borrow_mut() else {
+            return Err(is_lent());
+        };
+        unwanted.push(path)?;
+        Ok(())
     }
 
     // Notes a file that was made.
@@ -210,6 +241,7 @@ impl<R: Files + Drop> TreeFiles<R> {
         let path = self.new_path(name.as_slice())?;
         self.ask(path.as_str())?;
         let file = self.make_at(how, path.as_str())?;
+        self.note_unwanted(name.as_slice(), path.as_str())?;
         self.know(name, path)?;
         Ok(file)
     }

@@ -10,7 +10,7 @@ use chip_row::ChipRow;
 use front_edge::HostChip;
 use front_words::place;
 use geometry::Geometry;
-use host_edge::{StdFolder, Trouble};
+use host_edge::{Shown, StdFolder, Trouble};
 use nor_core::Nor;
 use table_model::{FsErr, Stat};
 use tool_parts::Buffers;
@@ -116,7 +116,7 @@ fn end_unmounted(rt: &HostRuntime, meant: &Meant<'_>, memory: &mut Memory) -> Re
     let row = row_of(rt, meant, chip_file(meant)?)?;
     let told = give_on(rt, meant, row, b"", &mut folder, memory, Guard::Open)?;
     if matches!(told.status, 0 | DAMAGED) {
-        let image = meant.image;
+        let image = Shown(meant.image);
         // (if standard error fails too there is nobody to tell)
         let _said = eprintln!(rt; "spiffs: {image}: the volume was mounted, and then it wasn't");
         return Ok(BOARD_FAULT);
@@ -135,7 +135,8 @@ fn explain_fault(
     if trouble.is_some() {
         return explain_image(rt, meant, trouble);
     }
-    let image = meant.image;
+    let image = Shown(meant.image);
+    let given = Shown(given);
     // (if standard error fails too there is nobody to tell)
     let _said = eprintln!(rt; "spiffs: {image}: {given}: {why}");
 }
@@ -151,6 +152,7 @@ pub fn cat(rt: &HostRuntime, meant: &Meant<'_>) -> Result<u8, Stop> {
         Some(Printed::Whole) => Ok(0),
         Some(Printed::Missing) => {
             let why = FsErr::NotFound;
+            let given = Shown(given);
             let _said = eprintln!(rt; "spiffs: {given}: {why}");
             Ok(REFUSED)
         }

@@ -4,7 +4,7 @@ use crate::give::{Guard, Told, chip_copy, chip_file, end_told, give_on, row_of};
 use crate::meant::{Meant, find_meant, text_of};
 use crate::picture::picture;
 use crate::room::{df, size};
-use crate::save::{is_replaced, save_copy, sync_image};
+use crate::save::{end_image, is_replaced, save_copy, sync_image};
 use crate::stop::Stop;
 use crate::store::{put, remove, rename};
 use crate::trees::{pack, unpack};
@@ -13,7 +13,7 @@ use crate::{Refusal, USAGE, has_repaired, take_memory, tell};
 use chip_row::ChipRow;
 use front_edge::HostChip;
 use front_words::{Asked, Refusal as LineRefusal, Slot, Word, first_given, read_line};
-use host_edge::StdFolder;
+use host_edge::{Shown, StdFolder};
 
 // The option that a refusal speaks of without naming it: one that isn't known, or whose value is missing.
 fn unnamed(why: LineRefusal) -> Option<Slot> {
@@ -28,7 +28,7 @@ fn unnamed(why: LineRefusal) -> Option<Slot> {
 fn refuse_line(rt: &HostRuntime, words: &[String], why: LineRefusal) -> u8 {
     let status = tell(rt, "! usage\n", USAGE);
     if let Some(slot) = unnamed(why) {
-        let given = text_of(first_given(words, slot));
+        let given = Shown(text_of(first_given(words, slot)));
         // (if standard error fails too there is nobody to tell)
         let _said = eprintln!(rt; "spiffs: {given}: {why}; try spiffs --help");
         return status;
@@ -110,7 +110,7 @@ fn perform(rt: &HostRuntime, words: &[String], asked: Asked) -> Result<u8, Stop>
         return size(rt, words, &asked);
     }
     let mut meant = find_meant(rt, words, asked)?;
-    match asked.word {
+    let status = match asked.word {
         Word::Pack | Word::Gen => pack(rt, &mut meant),
         Word::Unpack => unpack(rt, &mut meant),
         Word::Fsck => check(rt, &meant),
@@ -121,7 +121,8 @@ fn perform(rt: &HostRuntime, words: &[String], asked: Asked) -> Result<u8, Stop>
         Word::Df => df(rt, &meant),
         Word::Picture => picture(rt, &meant),
         _ => list(rt, &meant),
-    }
+    }?;
+    Ok(end_image(rt, &meant, status))
 }
 
 /// Does what a line asks that begins with no command of the top call, and answers the status.

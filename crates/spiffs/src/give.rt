@@ -10,7 +10,7 @@ use chip_row::ChipRow;
 use folder_core::Folder;
 use front_edge::{CopyErr, HostChip, PartChip, copy_of};
 use front_words::{Word, top_words};
-use host_edge::{StdBoard, StdFolder, StdSource, Trouble};
+use host_edge::{Shown, StdBoard, StdFolder, StdSource, Trouble};
 use nor_core::{Failed, Nor};
 use nor_memory::MemChip;
 use std::alloc::AllocError;
@@ -79,7 +79,7 @@ pub fn chip_copy(rt: &HostRuntime, meant: &Meant<'_>) -> Result<MemChip, Stop> {
 /// Says on standard error what failed of the image.
 pub fn explain_image(rt: &HostRuntime, meant: &Meant<'_>, trouble: Option<&Trouble>) {
     if let Some(trouble) = trouble {
-        let image = meant.image;
+        let image = Shown(meant.image);
         // (if standard error fails too there is nobody to tell)
         let _said = eprintln!(rt; "spiffs: {image}: {trouble}");
     }
@@ -124,7 +124,7 @@ fn is_harmed(meant: &Meant<'_>, guard: Guard, seen: Option<Seen>) -> bool {
 
 // Says on standard error which ids are damaged, by the lines of a list.
 fn tell_damaged(rt: &HostRuntime, meant: &Meant<'_>, listed: &[u8]) {
-    let image = meant.image;
+    let image = Shown(meant.image);
     // (if standard error fails too there is nobody to tell)
     let _said = eprintln!(rt;
         "spiffs: {image}: ids are damaged, and what is left of their files would be removed for good; nothing was written; with --force it is:"

@@ -1,22 +1,18 @@
 //! Which volume a line of the front means.
-ghost use Rattle.std.specs.Prelude.{◌≡◌, ◌*◌, ◌/◌, ◌<◌, ◌^◌, length};
-ghost use Rattle.volume_detect.specs.Words.{HasWords};
-
-use crate::detect::{CHECK, WORK};
+use crate::chips::BUSY;
+use crate::detect::found_in;
 use crate::stop::Stop;
-use crate::{BOARD_FAULT, BUSY, NO_VOLUME, OTHER_META, Refusal, USAGE, tell};
-use detect_tool::{blank_place, found_need};
+use crate::{BOARD_FAULT, NO_VOLUME, OTHER_META, USAGE, tell};
 use front_words::{
     Asked, Candidate, Unsettled, Volume, Word, choose_sure, image_word, settle, top_words,
     wants_detect,
 };
-use host_edge::{Access, HeldFile, Trouble};
-use nor_image::Image;
+use host_edge::{Access, HeldFile, Shown, Trouble};
 use std::alloc::{AllocError, Global};
 use std::{fs, str};
 use tool_parts::{chip_size_of, unit_of};
-use volume_detect::{UNIT, byte_of, read_words, words_need};
-use volume_rank::{Found, collect, next_best};
+use volume_detect::byte_of;
+use volume_rank::{Found, next_best};
 
 /// The number of places at which a volume may begin in the largest file.
 const PLACES: u32 = 88_080_384;
@@ -57,6 +53,7 @@ pub fn text_of(word: Option<&[u8]>) -> &str {
 
 /// Says what failed of a file of the host, and answers that status.
 pub fn fail(rt: &HostRuntime, path: &str, trouble: &Trouble, status: u8) -> Stop {
+    let path = Shown(path);
     // (if standard error fails too there is nobody to tell)
     let _said = eprintln!(rt; "spiffs: {path}: {trouble}");
     Stop::Status(status)
@@ -65,6 +62,7 @@ pub fn fail(rt: &HostRuntime, path: &str, trouble: &Trouble, status: u8) -> Stop
 // Says that what stands in the place of the image is a folder, and answers the status.
 fn refuse_folder(rt: &HostRuntime, image: &str) -> Stop {
     let status = tell(rt, "! usage\n", USAGE);
+    let image = Shown(image);
     // (if standard error fails too there is nobody to tell)
     let _said = eprintln!(rt;
         "spiffs: {image}: is a folder, and no image; the forms are pack FOLDER IMAGE and unpack IMAGE FOLDER"
@@ -95,8 +93,8 @@ fn access_of(asked: &Asked) -> Access {
     }
 }
 
-// Says why the image's file can't be had, and answers the status.
-fn refuse_image(rt: &HostRuntime, image: &str, why: &Trouble) -> Stop {
+/// Says why the image's file can't be had or replaced, and answers the status.
+pub fn refuse_image(rt: &HostRuntime, image: &str, why: &Trouble) -> Stop {
     if why.is_busy() {
         let status = tell(rt, "! busy\n", BUSY);
         return fail(rt, image, why, status);
@@ -132,17 +130,6 @@ fn bytes_of(
         Ok(()) => Ok(bytes),
         Err(why) => Err(fail(rt, image, &why, BOARD_FAULT)),
     }
-}
-
-// Reads the words of the image's bytes that may be magics.
-fn read_all_words(bytes: &[u8], words: &mut [u8])
-    requires small { length bytes.now < 2 ^ 32 }
-    requires words { length words.old ≡ 12 * (length bytes.now / 4096) }
-    ensures { HasWords bytes.now words.new }
-{
-    let mut image = Image::new(bytes, UNIT);
-    // (an image never fails)
-    let _read = read_words(&mut image, words);
 }
 
 // A volume that was found, as `settle` is told it.
@@ -181,35 +168,14 @@ fn ranked(alloc: Global, found: &[Found]) -> Result<Vec<Candidate>, AllocError> 
     Ok(candidates)
 }
 
-// The volumes that the bytes of a file may hold, the best first.
-fn candidates_in(alloc: Global, bytes: &[u8], size: u32) -> Result<Vec<Candidate>, Stop>
-    requires { length bytes.now ≡ size }
-{
-    let Ok(place) = blank_place() else {
-        return Err(Stop::Refusal(Refusal::Memory));
-    };
-    let mut words = vec![in alloc; 0u8; words_need(size) as usize]?;
-    let mut work = vec![in alloc; 0u8; WORK]?;
-    let mut check = vec![in alloc; 0u8; CHECK]?;
-    let mut found = vec![in alloc; place; found_need(size) as usize]?;
-    read_all_words(bytes, &mut words);
-    match collect(bytes, &words, &mut work, &mut check, &mut found) {
-        Ok(count) => Ok(ranked(alloc, found.get(..count).unwrap_or(&[]))?),
-        // (there are no more candidates than places)
-        Err(_) => Ok(Vec::new(alloc)),
-    }
-}
-
 // The volumes that the image may hold, the best first; none of one that has 2^32 bytes or more.
 fn look_for(rt: &HostRuntime, image: &str, held: &HeldFile) -> Result<Vec<Candidate>, Stop> {
     let Ok(size) = u32::try_from(held.length()) else {
         return Ok(Vec::new(rt.alloc()));
     };
     let bytes = bytes_of(rt, image, held, size)?;
-    if bytes.len() != size as usize {
-        return Ok(Vec::new(rt.alloc()));
-    }
-    candidates_in(rt.alloc(), &bytes, size)
+    let found = found_in(rt.alloc(), &bytes)?;
+    Ok(ranked(rt.alloc(), &found)?)
 }
 
 // The volumes that the image may hold, the best first; none is looked for where all numbers are known.
@@ -236,6 +202,7 @@ fn tell_candidates(rt: &HostRuntime, image: &str, found: &[Candidate]) {
     }
     let others = found.len().saturating_sub(TOLD);
     if others > 0 {
+        let image = Shown(image);
         let _said = eprintln!(rt; "spiffs: and {others} others: spiffs detect {image}");
     }
 }
@@ -284,7 +251,8 @@ fn refuse_volume(
     } else {
         ""
     };
-    let _said = eprintln!(rt; "spiffs: {image}: {why}{end}");
+    let shown = Shown(image);
+    let _said = eprintln!(rt; "spiffs: {shown}: {why}{end}");
     if tells_found(why) {
         let _said = eprintln!(rt; "spiffs: detect finds:");
         tell_candidates(rt, image, found);
@@ -314,6 +282,7 @@ fn tell_doubt(
     }
     if let Some(why) = doubt_of(asked, found, volume) {
         let others = found.len().saturating_sub(1);
+        let image = Shown(image);
         // (if standard error fails too there is nobody to tell)
         let _said = eprintln!(rt;
             "spiffs: {image}: the volume {volume} is read, and {others} others were found; a word that writes is refused: {why}; see spiffs detect {image}"

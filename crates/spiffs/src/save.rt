@@ -1,6 +1,6 @@
 //! Images that were changed or made in memory, and how they come into their files.
 use crate::give::{explain_image, row_of, trouble_of};
-use crate::meant::{Meant, fail};
+use crate::meant::{Meant, refuse_image};
 use crate::stop::Stop;
 use crate::BOARD_FAULT;
 use chip_row::{Chip, ChipRow};
@@ -111,6 +111,20 @@ fn write_device(
     sync_image(rt, meant)
 }
 
+/// The status of a line that has ended so: a plain file that has lost bytes meanwhile is a fault.
+pub fn end_image(rt: &HostRuntime, meant: &Meant<'_>, status: u8) -> u8 {
+    let Some(held) = &meant.held else {
+        return status;
+    };
+    let trouble = match held.metadata() {
+        Ok(told) if told.is_file() && told.len() < held.length() => Trouble::Shorter,
+        Ok(_) => return status,
+        Err(why) => Trouble::Read(why),
+    };
+    explain_image(rt, meant, Some(&trouble));
+    BOARD_FAULT
+}
+
 /// Has what was written in place onto its disk.
 pub fn sync_image(rt: &HostRuntime, meant: &Meant<'_>) -> Result<(), Stop> {
     let Some(held) = &meant.held else {
@@ -118,7 +132,7 @@ pub fn sync_image(rt: &HostRuntime, meant: &Meant<'_>) -> Result<(), Stop> {
     };
     match held.sync() {
         Ok(()) => Ok(()),
-        Err(why) => Err(fail(rt, meant.image, &why, BOARD_FAULT)),
+        Err(why) => Err(refuse_image(rt, meant.image, &why)),
     }
 }
 
@@ -129,7 +143,7 @@ pub fn save_image(rt: &HostRuntime, meant: &Meant<'_>, bytes: &[u8]) -> Result<(
         Some(held) if held.is_device() => write_device(rt, meant, held, bytes),
         _ => match replace(rt, meant, bytes) {
             Ok(()) => Ok(()),
-            Err(why) => Err(fail(rt, meant.image, &why, BOARD_FAULT)),
+            Err(why) => Err(refuse_image(rt, meant.image, &why)),
         },
     }
 }

@@ -12,7 +12,7 @@ use crate::{
 use chip_row::ChipRow;
 use front_edge::HostChip;
 use front_words::{SCRATCH, can_be_put, make_working, place};
-use host_edge::{StdFolder, Trouble};
+use host_edge::{Shown, StdFolder, Trouble};
 use std::alloc::{AllocError, Global};
 use std::io::Read;
 use std::{fs, io, str};
@@ -29,6 +29,7 @@ fn refuse(rt: &HostRuntime, what: &str, why: FsErr) -> Stop {
         Ok(line) => tell(rt, line.as_str(), REFUSED),
         Err(_) => REFUSED,
     };
+    let what = Shown(what);
     // (if standard error fails too there is nobody to tell)
     let _said = eprintln!(rt; "spiffs: {what}: {why}");
     Stop::Status(status)
@@ -72,8 +73,8 @@ fn judge<C: HostChip>(
             return Err(refuse(rt, call, why));
         }
         if told.status == 0 {
-            let reply = str::from_utf8(refused.reply).unwrap_or("");
-            let call = str::from_utf8(refused.call).unwrap_or("");
+            let reply = Shown(str::from_utf8(refused.reply).unwrap_or(""));
+            let call = Shown(str::from_utf8(refused.call).unwrap_or(""));
             let _said = eprintln!(rt; "spiffs: {call}: {reply}");
             return Err(Stop::Status(BOARD_FAULT));
         }

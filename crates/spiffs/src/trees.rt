@@ -9,7 +9,7 @@ use chip_row::ChipRow;
 use folder_core::{Folder, MemFolder};
 use front_edge::{HostChip, blank_chip};
 use front_words::{folder_word, push_word};
-use host_edge::{BadName, FileId, Shown, StdFolder};
+use host_edge::{BadName, Bounds, FileId, Shown, SizeLimit, StdFolder};
 use host_tree::TreeFiles;
 use std::alloc::{AllocError, Global};
 use std::io;
@@ -88,15 +88,30 @@ pub fn explain_tree<'r>(
     explain(rt, Some(trouble));
 }
 
-// The image, where it is there: as a file that no file of the folder may be.
-fn image_id(alloc: Global, meant: &Meant<'_>) -> Result<Vec<FileId>, AllocError> {
-    let mut chips = Vec::new(alloc);
+// What no file of the tree may be: the image, where it is there; and how large it may become.
+fn bounds_of(rt: &HostRuntime, meant: &Meant<'_>) -> Result<Bounds, AllocError> {
+    let mut chips = Vec::new(rt.alloc());
     if let Some(held) = &meant.held {
         if let Ok(told) = held.metadata() {
             chips.push(FileId::of(&told))?;
         }
     }
-    Ok(chips)
+    let limit = SizeLimit::of(rt);
+    Ok(Bounds { chips, limit })
+}
+
+// Says which files were put aside for the sake of their names alone.
+fn explain_aside(rt: &HostRuntime, tree: &TreeFiles<&HostRuntime>) -> io::Result<()> {
+    for number in 0..usize::MAX {
+        let Some(path) = tree.unwanted(number)? else {
+            return Ok(());
+        };
+        let path = Shown(path.as_str());
+        eprintln!(rt;
+            "spiffs: {path}: put aside, since its name holds control characters; --raw-names takes it as it is"
+        )?;
+    }
+    Ok(())
 }
 
 // Ends a line that makes an image of a tree.
@@ -136,8 +151,8 @@ pub fn pack(rt: &HostRuntime, meant: &mut Meant<'_>) -> Result<u8, Stop> {
     let top = text_of(folder_word(meant.words, &meant.asked));
     let mut memory = take_memory(rt, &meant.top)?;
     let tree = TreeFiles::new(rt, rt.alloc(), top, false)?;
-    let chips = image_id(rt.alloc(), meant)?;
-    let mut folder = StdFolder::apart_from(&tree, rt.alloc(), top, chips)?;
+    let bounds = bounds_of(rt, meant)?;
+    let mut folder = StdFolder::within(&tree, rt.alloc(), top, bounds)?;
     folder.refuse_chips();
     let chip = blank_chip(rt.alloc(), meant.size, meant.unit)?;
     let row = row_of(rt, meant, chip)?;
@@ -164,13 +179,18 @@ pub fn unpack(rt: &HostRuntime, meant: &mut Meant<'_>) -> Result<u8, Stop> {
     if meant.asked.is_dry {
         return unpack_dry(rt, meant, &mut memory);
     }
-    let tree = TreeFiles::new(rt, rt.alloc(), top, true)?;
-    let chips = image_id(rt.alloc(), meant)?;
-    let mut folder = StdFolder::apart_from(&tree, rt.alloc(), top, chips)?;
+    let mut tree = TreeFiles::new(rt, rt.alloc(), top, true)?;
+    if meant.asked.raw_names {
+        tree.take_raw_names();
+    }
+    let bounds = bounds_of(rt, meant)?;
+    let mut folder = StdFolder::within(&tree, rt.alloc(), top, bounds)?;
     let chip = chip_copy(rt, meant)?;
     let row = row_of(rt, meant, chip)?;
     let told = give_on(rt, meant, row, b"", &mut folder, &mut memory, Guard::Open)?;
     let status = end_told(rt, meant, &told);
+    // (if standard error fails too there is nobody to tell)
+    let _said = explain_aside(rt, &tree);
     if status == FOLDER_FAULT {
         explain_tree(rt, &tree, &folder);
     }
