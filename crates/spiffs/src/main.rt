@@ -34,7 +34,9 @@ use front::begin_front;
 use front_words::is_own;
 use guard::is_stopped;
 use help::{HELP, VERSION};
-use host_edge::{FileChip, HeldFile, Shown, StdBoard, StdFolder, StdSource, Trouble};
+use host_edge::{
+    Bounds, FileChip, FileId, HeldFile, Shown, SizeLimit, StdBoard, StdFolder, StdSource, Trouble,
+};
 use look::{Seen, look_before};
 use making::{Target, make_whole, target_of};
 use nor_core::MemErr;
@@ -187,15 +189,33 @@ impl From<MemErr> for Refusal {
     }
 }
 
+// What no file of the folder may be: the chip files, as far as they are there; and how large it may become.
+fn bounds_of(rt: &HostRuntime, words: &[String]) -> Result<Bounds, AllocError> {
+    let mut chips = Vec::new(rt.alloc());
+    for path in chip_word(words).split(',') {
+        if let Ok(id) = FileId::at(rt, path) {
+            chips.push(id)?;
+        }
+    }
+    let limit = SizeLimit::of(rt);
+    Ok(Bounds { chips, limit })
+}
+
 // The folder that is written or read; another command asks for none, and none is listed then.
 fn folder_of<'r>(
     rt: &'r HostRuntime,
     words: &[String],
 ) -> Result<StdFolder<&'r HostRuntime>, Refusal> {
-    match word(words, 0) {
-        "extract" | "make" => Ok(StdFolder::new(rt, rt.alloc(), word(words, FOLDER_WORD))?),
-        _ => Ok(StdFolder::unlisted(rt, rt.alloc())),
+    let verb = word(words, 0);
+    if !matches!(verb, "extract" | "make") {
+        return Ok(StdFolder::unlisted(rt, rt.alloc()));
     }
+    let path = word(words, FOLDER_WORD);
+    let mut folder = StdFolder::within(rt, rt.alloc(), path, bounds_of(rt, words)?)?;
+    if verb == "make" {
+        folder.refuse_chips();
+    }
+    Ok(folder)
 }
 
 // Says on standard error what failed, if anything did.
@@ -264,7 +284,7 @@ fn explain_damaged(rt: &impl Eprint, seen: Option<Seen>) {
 // Says on standard error what of the folder was passed over, and what is wrong with a name.
 fn explain_folder<'r>(rt: &impl Eprint, folder: &StdFolder<&'r HostRuntime>, status: u8) {
     for passed in folder.passed_over() {
-        let path = passed.path.as_str();
+        let path = Shown(passed.path.as_str());
         let kind = if passed.is_folder {
             "folder"
         } else {
@@ -276,6 +296,13 @@ fn explain_folder<'r>(rt: &impl Eprint, folder: &StdFolder<&'r HostRuntime>, sta
         if let Some(bad) = folder.bad_name() {
             let _said = eprintln!(rt; "spiffs: {bad}");
         }
+    }
+}
+
+// Says on standard error what failed of the folder, and on which path.
+fn explain_folder_fault<'r>(rt: &impl Eprint, folder: &StdFolder<&'r HostRuntime>) {
+    if let Some(trouble) = folder.trouble() {
+        explain_path(rt, folder.failed_path(), trouble);
     }
 }
 
@@ -325,7 +352,7 @@ fn explain_end<'r, W: Write + Drop, R: Read + Drop>(
     match status {
         BOARD_FAULT => explain_board(rt, words, board),
         SCRIPT_FAULT => explain(rt, script.trouble()),
-        FOLDER_FAULT => explain(rt, folder.trouble()),
+        FOLDER_FAULT => explain_folder_fault(rt, folder),
         0 | FULL | BAD_NAME if word(words, 0) == "make" => explain_folder(rt, folder, status),
         _ => explain_status(rt, words, status),
     }
@@ -393,7 +420,7 @@ fn make(
     let mut bufs = memory.lend();
     let status = make_whole(rt, words, held, &mut folder, &mut bufs)?;
     match status {
-        FOLDER_FAULT => explain(rt, folder.trouble()),
+        FOLDER_FAULT => explain_folder_fault(rt, &folder),
         0 | FULL | BAD_NAME => explain_folder(rt, &folder, status),
         BOARD_FAULT | BUSY => {}
         _ => explain_status(rt, words, status),
