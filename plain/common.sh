@@ -9,11 +9,13 @@ unset CARGO_TARGET_DIR
 
 # Tells why the edition can't be built here, if it can't: its manifests tell rust-version 1.87, for `str::from_utf8`.
 missing_tool() {
-  local version
+  local version said from="it comes with Rust, by https://rustup.rs or as Debian's packages cargo-web and rustc-web"
   command -v python3 >/dev/null || { echo "python3 isn't there"; return; }
-  command -v cargo >/dev/null || { echo "cargo isn't there"; return; }
-  version=$(cargo --version 2>/dev/null | awk '{ split($2, part, "."); print part[1] * 1000 + part[2] }')
-  [ "${version:-0}" -ge 1087 ] || echo "cargo is older than 1.87"
+  command -v cargo >/dev/null || { echo "cargo isn't there; $from"; return; }
+  said=$(cargo --version 2>&1) || { echo "cargo doesn't run: ${said%%$'\n'*}"; return; }
+  version=$(awk '{ split($2, part, "."); print part[1] * 1000 + part[2] }' <<<"$said")
+  [ "${version:-0}" -ge 1087 ] || { echo "cargo is older than 1.87; $from"; return; }
+  python3 -c 'import sys; sys.exit(sys.version_info < (3, 9))' 2>/dev/null || echo 'python3 is older than 3.9'
 }
 
 has_debian_crates() {
@@ -23,16 +25,18 @@ has_debian_crates() {
   done
 }
 
+# Debian's packages of the crates.
+debian_packages() { printf 'librust-%s-dev ' $registry_crates; }
+
+# Installs Debian's crates, if a script was told to: nothing is installed unasked.
 get_debian_crates() {
-  [ "$(id -u)" -eq 0 ] && command -v apt-get >/dev/null || return 1
-  local packages
-  packages=$(printf 'librust-%s-dev ' $registry_crates)
+  [ "${may_install-}" = yes ] && [ "$(id -u)" -eq 0 ] && command -v apt-get >/dev/null || return 1
   export DEBIAN_FRONTEND=noninteractive
-  { timeout 60 apt-get update -qq && timeout 120 apt-get install -y -qq --no-install-recommends $packages; } >/dev/null 2>&1 </dev/null
+  { timeout 60 apt-get update -qq && timeout 120 apt-get install -y -qq --no-install-recommends $(debian_packages); } >/dev/null 2>&1 </dev/null
 }
 
-# Sees to it that cargo finds the crates of the workspace in a folder: those of Debian where they are at hand, else those of
-# crates.io, else Debian's are installed. Fails where they can't be had.
+# Sees to it that cargo finds the crates of the workspace in a folder: Debian's if they are installed, else those of crates.io, else
+# Debian's are installed, if `may_install` is yes. Fails if they can't be had.
 get_crates() {
   local config=$1/.cargo/config.toml
   if [ -e "$config" ]; then
@@ -40,12 +44,20 @@ get_crates() {
     let_go_of_crates "$1"
   fi
   if ! has_debian_crates; then
-    (cd "$1" && CARGO_NET_RETRY=0 timeout 60 cargo fetch --quiet) >/dev/null 2>&1 && return
+    (cd "$1" && CARGO_NET_RETRY=0 timeout 60 cargo fetch --quiet) >/dev/null 2>&1 </dev/null && return
     get_debian_crates && has_debian_crates || return
   fi
   let_go_of_crates "$1"
   mkdir -p "$1/.cargo"
-  printf '[source.crates-io]\nreplace-with = "debian"\n\n[source.debian]\ndirectory = "%s"\n' "$debian_crates" >"$config"
+  printf '[source.crates-io]\nreplace-with = "debian"\n\n[source.debian]\ndirectory = "%s"\n' "$debian_crates" >"$config.new" &&
+    mv -f "$config.new" "$config"
+}
+
+# What to do if the crates can't be had.
+tell_of_crates() {
+  echo "the crates $registry_crates can't be fetched from crates.io, and Debian's packages of them are not installed"
+  command -v apt-get >/dev/null || return 0
+  echo "to install them give: $([ "$(id -u)" -eq 0 ] || echo 'sudo ')apt-get install --no-install-recommends $(debian_packages)"
 }
 
 # Forgets where the crates of a workspace came from. (Cargo.lock has the versions and the sums of the crates of one source.)
@@ -120,11 +132,12 @@ tell_all() {
   [ "$failed" -eq 0 ]
 }
 
-# Writes the edition and gets its crates, or tells why that can't be done.
+# Writes the edition into a folder, else into that of the edition, and gets its crates, or tells why that can't be done:
+# ready FOLDER_OF_THE_EDITION [INTO]
 ready() {
-  local why
+  local why into=${2:-$1/out}
   why=$(missing_tool)
-  [ -z "$why" ] && { python3 "$1/plain.py" >/dev/null || why="it can't be written"; }
-  [ -z "$why" ] && { get_crates "$1/out" || why="the crates $registry_crates can't be had, neither of crates.io nor as Debian's packages"; }
-  [ -z "$why" ] || { echo "the plain edition: $why" >&2; return 1; }
+  [ -z "$why" ] && { python3 "$1/plain.py" --into "$into" >/dev/null || why="it can't be written"; }
+  [ -z "$why" ] && { get_crates "$into" || why=$(tell_of_crates); }
+  [ -z "$why" ] || { printf 'the plain edition: %s\n' "$why" >&2; return 1; }
 }
