@@ -2,6 +2,8 @@
 
 import re
 
+import terms
+
 # What may stand for a word of a form, where a shell can tell.
 KINDS = {
     "PAGE": "128 256 512 1024 2048 4096",
@@ -124,6 +126,7 @@ def man_page(text, version, day):
             out += [".nf", *map(in_roff, paragraph), ".fi"]
         else:
             out += map(in_roff, paragraph)
+    out += [".SH COPYRIGHT", f"{in_roff(terms.AUTHORS)}. Licence: {in_roff(terms.LICENCE)}; see LICENSE\\-MIT and LICENSE\\-APACHE, or the package's file copyright."]
     out += [".SH SEE ALSO", "The pages beside the program: README.md, COMMANDS.md, PROVED.md, POWER\\-CUTS.md."]
     return "\n".join(out) + "\n"
 

@@ -47,6 +47,10 @@ PACKAGES = [
 # Crates that reach the files and streams of a host: they are built for Unix alone.
 HOST_CRATES = {"front_edge", "host_edge", "host_tree"}
 
+# What the manifests say, and the files that say it in full; the engine's crate has them too, since it is packed alone.
+LICENCE = "MIT OR Apache-2.0"
+LICENCES = ("LICENSE-MIT", "LICENSE-APACHE")
+
 # Crates of a registry.
 REGISTRY = {
     "arrayvec": 'version = "0.7", default-features = false',
@@ -125,6 +129,9 @@ class Edition:
         for path in sorted(parts.rglob("*")):
             if path.is_file() and path.suffix not in (".head", ".extra"):
                 self.files[str(path.relative_to(parts))] = path.read_text(encoding="utf-8")
+        for name in LICENCES:
+            text = (parts.parent.parent / name).read_text(encoding="utf-8")
+            self.files.update({name: text, f"liverymenhir/{name}": text})
         self.files["SOURCE"] = source_text(top)
 
     # The crates of each package, in the order of `crates.txt`.
@@ -193,7 +200,7 @@ class Edition:
         return text + "\n" + "".join(("#[cfg(unix)]\n" if name in HOST_CRATES else "") + f"pub mod {name};\n" for name in modules)
 
     def manifest(self, package, uses):
-        text = f'[package]\nname = "{package.name}"\nversion = "0.1.0"\nedition = "2024"\nrust-version = "1.87"\n'
+        text = f'[package]\nname = "{package.name}"\nversion = "0.1.0"\nedition = "2024"\nrust-version = "1.87"\nlicense = "{LICENCE}"\n'
         text += self.part(package, "Cargo.extra") or "publish = false\n"
         text += "\n[dependencies]\n" + "".join(self.dependency(package, name) for name in sorted(uses))
         if package.no_std:
