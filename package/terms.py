@@ -31,7 +31,9 @@ def in_field(text):
 def copyright_file(is_proved):
     """The file `copyright` of a package, in Debian's format."""
     mit = (TOP / "LICENSE-MIT").read_text(encoding="utf-8").partition("\n\n")[2].partition("\n\n")[2]
-    crates = "".join(f"{name}: {licence}, copyright {holder}\n" for name, holder, licence in CRATES)
+    # (what thiserror derives is written by the script of the plain edition)
+    held = [it for it in CRATES if is_proved or it[0] != "thiserror"]
+    crates = "".join(f"{name}: {licence}, copyright {holder}\n" for name, holder, licence in held)
     comment = in_field(f"{PROVED if is_proved else PLAIN}\n\n{crates}")
     parts = [
         f"Format: https://www.debian.org/doc/packaging-manuals/copyright-format/1.0/\nUpstream-Name: Liverymenhir\nComment:\n{comment}",

@@ -1,8 +1,9 @@
 # What the scripts of the plain edition share: whether its tools are there, and its crates. To be sourced by bash.
 
 # Crates of a registry that the edition stands on, and the folder that Debian's packages of them fill.
-registry_crates="arrayvec byteorder itoa memchr thiserror"
+registry_crates="arrayvec byteorder itoa memchr"
 debian_crates=/usr/share/cargo/registry
+parts=$(dirname "${BASH_SOURCE[0]}")/parts
 
 # What is built is looked for in the folder of the edition.
 unset CARGO_TARGET_DIR
@@ -32,25 +33,46 @@ debian_packages() { printf 'librust-%s-dev ' $registry_crates; }
 get_debian_crates() {
   [ "${may_install-}" = yes ] && [ "$(id -u)" -eq 0 ] && command -v apt-get >/dev/null || return 1
   export DEBIAN_FRONTEND=noninteractive
-  { timeout 60 apt-get update -qq && timeout 120 apt-get install -y -qq --no-install-recommends $(debian_packages); } >/dev/null 2>&1 </dev/null
+  { within 60 apt-get update -qq && within 120 apt-get install -y -qq --no-install-recommends $(debian_packages); } >/dev/null 2>&1 </dev/null
 }
 
-# Sees to it that cargo finds the crates of the workspace in a folder: Debian's if they are installed, else those of crates.io, else
-# Debian's are installed, if `may_install` is yes. Fails if they can't be had.
-get_crates() {
+# Whether Debian's crates have the versions of a workspace's Cargo.lock, if there is one.
+fits_lock() {
+  local crate
+  [ -e "$1/Cargo.lock" ] || return 0
+  for crate in $(awk -F'"' '/^name/ { name = $2 } /^version = "/ { version = $2 } /^source/ { print name "-" version }' "$1/Cargo.lock"); do
+    [ -d "$debian_crates/$crate" ] || return
+  done
+}
+
+take_debian_crates() {
   local config=$1/.cargo/config.toml
-  if [ -e "$config" ]; then
-    has_debian_crates && return
-    let_go_of_crates "$1"
-  fi
-  if ! has_debian_crates; then
-    (cd "$1" && CARGO_NET_RETRY=0 timeout 60 cargo fetch --quiet) >/dev/null 2>&1 </dev/null && return
-    get_debian_crates && has_debian_crates || return
-  fi
-  let_go_of_crates "$1"
   mkdir -p "$1/.cargo"
   printf '[source.crates-io]\nreplace-with = "debian"\n\n[source.debian]\ndirectory = "%s"\n' "$debian_crates" >"$config.new" &&
     mv -f "$config.new" "$config"
+}
+
+# Sees to it that cargo finds the crates of the workspaces in a folder, with the versions of their Cargo.lock: Debian's if they are installed,
+# else those of crates.io. If neither can be had so, Debian's are taken in the versions that there are; if `may_install` is yes they are
+# installed first. Fails if there are none.
+get_crates() {
+  if has_debian_crates && fits_lock "$1"; then
+    take_debian_crates "$1"
+    return
+  fi
+  rm -f "$1/.cargo/config.toml"
+  (cd "$1" && CARGO_NET_RETRY=0 within 60 cargo fetch --quiet $(locked "$1")) >/dev/null 2>&1 </dev/null && return
+  has_debian_crates || { get_debian_crates && has_debian_crates; } || return
+  fits_lock "$1" || rm -f "$1"/Cargo.lock "$1"/*/Cargo.lock
+  take_debian_crates "$1"
+}
+
+# The word for cargo, if the workspaces of a folder have the Cargo.lock of the repository.
+locked() { if cmp -s "$parts/Cargo.lock" "$1/Cargo.lock"; then echo --locked; fi; }
+
+# Runs a program for so many seconds at most, if there is one that ends it then.
+within() {
+  if command -v timeout >/dev/null; then timeout "$@"; else shift && "$@"; fi
 }
 
 # What to do if the crates can't be had.
@@ -58,11 +80,6 @@ tell_of_crates() {
   echo "the crates $registry_crates can't be fetched from crates.io, and Debian's packages of them are not installed"
   command -v apt-get >/dev/null || return 0
   echo "to install them give: $([ "$(id -u)" -eq 0 ] || echo 'sudo ')apt-get install --no-install-recommends $(debian_packages)"
-}
-
-# Forgets where the crates of a workspace came from. (Cargo.lock has the versions and the sums of the crates of one source.)
-let_go_of_crates() {
-  rm -f "$1"/.cargo/config.toml "$1"/Cargo.lock "$1"/*/Cargo.lock
 }
 
 # What `cargo build` needs for a target, as words in `for_target`, its compiler in `rustc`, and where the programs then are in `made`.
@@ -93,6 +110,8 @@ set_target() {
       --config "source.debian.directory='$3/crates'")
   fi
   for_target+=(build --release --quiet --target "$1" --target-dir "$3/target")
+  # (beside the sources of a library cargo looks at the lock of these too, which isn't ours)
+  [ "$rustc" != rustc ] || for_target+=($(locked "$3"))
   made=$3/target/$1/release
 }
 
