@@ -36,8 +36,9 @@ class Package:
         self.crates = []
 
 
+ENGINE = "liverymenhir"
 PACKAGES = [
-    Package("liverymenhir", ["volume", "wear_scrub"], exported=["volume", "nor_core"], no_std=True),
+    Package(ENGINE, ["volume", "wear_scrub"], exported=["volume", "nor_core"], no_std=True),
     Package("spiffs", ["spiffs"]),
     Package("script_rows", ["script_rows"]),
     Package("plain_explain", ["plain_explain"]),
@@ -47,13 +48,16 @@ PACKAGES = [
 # Crates that reach the files and streams of a host: they are built for Unix alone.
 HOST_CRATES = {"front_edge", "host_edge", "host_tree"}
 
+# What the manifests say, and the files that say it in full; the engine's crate has them too, since it is packed alone.
+LICENCE = "MIT OR Apache-2.0"
+LICENCES = ("LICENSE-MIT", "LICENSE-APACHE")
+
 # Crates of a registry.
 REGISTRY = {
     "arrayvec": 'version = "0.7", default-features = false',
     "byteorder": 'version = "1.4", default-features = false',
     "itoa": 'version = "1"',
     "memchr": 'version = "2", default-features = false',
-    "thiserror": 'version = "1"',
 }
 
 
@@ -125,6 +129,9 @@ class Edition:
         for path in sorted(parts.rglob("*")):
             if path.is_file() and path.suffix not in (".head", ".extra"):
                 self.files[str(path.relative_to(parts))] = path.read_text(encoding="utf-8")
+        for name in LICENCES:
+            text = (parts.parent.parent / name).read_text(encoding="utf-8")
+            self.files.update({name: text, f"liverymenhir/{name}": text})
         self.files["SOURCE"] = source_text(top)
 
     # The crates of each package, in the order of `crates.txt`.
@@ -170,7 +177,7 @@ class Edition:
         for stem, text in crate.files.items():
             is_hosted = rules.uses_host(text)
             text = rules.with_roots(text, lambda word: self.root_of(package, crate, stem, is_hosted, word))
-            text = rules.displays(rules.errors(text, package.no_std))
+            text = rules.displays(rules.errors(text, "crate" if package.no_std else ENGINE))
             if is_hosted:
                 text = rules.hosted(text)
             if stem == "main":
@@ -190,14 +197,15 @@ class Edition:
             text += '#![no_std]\n#![forbid(unsafe_code)]\n\n#[cfg(feature = "std")]\nextern crate std;\n\n'
             text += '#[cfg(target_pointer_width = "16")]\ncompile_error!("16 bits of address are too few");\n\n'
         text += "".join(f"#[doc(inline)]\npub use self::{name}::*;\n" for name in package.exported)
-        return text + "\n" + "".join(("#[cfg(unix)]\n" if name in HOST_CRATES else "") + f"pub mod {name};\n" for name in modules)
+        text += "\n" + "".join(("#[cfg(unix)]\n" if name in HOST_CRATES else "") + f"pub mod {name};\n" for name in modules)
+        return text + self.part(package, "lib.extra")
 
     def manifest(self, package, uses):
-        text = f'[package]\nname = "{package.name}"\nversion = "0.1.0"\nedition = "2024"\nrust-version = "1.87"\n'
+        text = f'[package]\nname = "{package.name}"\nversion = "0.1.0"\nedition = "2024"\nrust-version = "1.87"\nlicense = "{LICENCE}"\n'
         text += self.part(package, "Cargo.extra") or "publish = false\n"
         text += "\n[dependencies]\n" + "".join(self.dependency(package, name) for name in sorted(uses))
         if package.no_std:
-            text += '\n[features]\nstd = ["dep:thiserror"]\n'
+            text += "\n[features]\nstd = []\n"
         if any(crate.is_program() for crate in package.crates):
             # (a program starts by `rattle_host::main!`, which a test of it can't)
             text += f'\n[[bin]]\nname = "{package.name}"\npath = "src/main.rs"\ntest = false\n'
@@ -206,8 +214,7 @@ class Edition:
     def dependency(self, package, name):
         is_engine = any(other.name == name and other.no_std for other in PACKAGES)
         said = REGISTRY.get(name, f'path = "../{name}"') + (', features = ["std"]' if is_engine else "")
-        optional = ", optional = true" if package.no_std and name == "thiserror" else ""
-        return f"{name} = {{ {said}{optional} }}\n"
+        return f"{name} = {{ {said} }}\n"
 
 
 def source_text(top):

@@ -2,7 +2,7 @@
 
 import re
 
-from contracts import tokens_of, words_of
+from contracts import Refused, tokens_of, words_of
 
 # The crate that stands in the place of Rattle's standard library where that differs from Rust's.
 HOST = "rattle_host"
@@ -72,15 +72,58 @@ def drops(text):
     return re.sub(r":\s*Drop\b", "", text)
 
 
-def errors(text, no_std):
-    """`thiserror`: `#[from(alloc)]` is `#[from]`. Where there is no std an error is one with the feature `std` alone."""
-    text = text.replace("#[from(alloc)]", "#[from]")
-    if not no_std:
-        return text
-    gate = '#[cfg_attr(feature = "std", derive(thiserror::Error))]'
-    text = re.sub(r"^#\[derive\((.*), Error\)\]$", rf"#[derive(\1)]\n{gate}", text, flags=re.M)
-    text = re.sub(r"^( *)#\[(error\(.*\))\]$", r'\1#[cfg_attr(feature = "std", \2)]', text, flags=re.M)
-    return re.sub(r"^use thiserror::Error;\n", "", text, flags=re.M)
+# A type that is an error, up to its body, or whole where it has none.
+ERROR = re.compile(r"^#\[derive\((.*), Error\)\]\n((?:#\[.*\]\n)*)((?:pub )?(?:enum|struct) (\w+))( \{|;)\n?", re.M)
+
+# The words of an error and the variant that they are of: a name, and the fields in parentheses or braces.
+VARIANT = re.compile(r'^ *#\[error\(("(?:\\.|[^"\\])*")\)\]\n((?: *(?:///|#\[).*\n)*) *(\w+)(?:\(([^()]*)\)| \{([^{}]*)\})?,$', re.M)
+
+
+def error_form(name, words, in_parens, in_braces):
+    """The pattern of an error whose words are told, and the words as Rust's macros take them: fields that the words name are bound."""
+    named = set(re.findall(r"\{(\w+)[:}]", words))
+    if in_parens is not None:
+        count = in_parens.count(",") + 1
+        bound = [f"_{at}" if str(at) in named else "_" for at in range(count)]
+        return f"{name}({', '.join(bound)})", re.sub(r"\{(?=\d)", "{_", words)
+    if in_braces is not None:
+        return f"{name} {{ {', '.join([*sorted(named), '..'])} }}", words
+    return name, words
+
+
+def error_texts(match, body, root):
+    """What `thiserror` derives, by macros of the engine's crate: the words of a type, and what it is made of."""
+    _, attributes, _, name, _ = match.groups()
+    forms, made = [], []
+    whole = re.search(r'#\[error\(("(?:\\.|[^"\\])*")\)\]\n', attributes)
+    if whole:
+        forms.append(error_form(name, whole[1], None, body if body.strip() else None))
+    for words, _, variant, in_parens, in_braces in VARIANT.findall(body):
+        fields = (in_parens or None, in_braces or None)
+        forms.append(error_form(f"{name}::{variant}", words, *fields))
+        if in_parens.startswith("#[from]"):
+            made.append(f"{variant}({in_parens.removeprefix('#[from]').strip()})")
+    if len(forms) != max(body.count("#[error("), 1) or body.count("#[from]") != len(made):
+        raise Refused(f"the error {name} has words in a form that no rule is for")
+    text = f"\n{root}::error_texts!({name} {{\n" + "".join(f"    {form} => {words},\n" for form, words in forms) + "});\n"
+    return text + (f"\n{root}::error_from!({name} {{ {', '.join(made)} }});\n" if made else "")
+
+
+def errors(text, root):
+    """`thiserror`: a type that derives `Error` has the same impls by macros of the engine's crate, which `root` names, so no crate is needed."""
+    text = re.sub(r"^use thiserror::Error;\n", "", text.replace("#[from(alloc)]", "#[from]"), flags=re.M)
+    out, at = "", 0
+    for match in ERROR.finditer(text):
+        end = text.index("\n}\n", match.end()) + 3 if match[5] == " {" else match.end()
+        body = text[match.end() : end - 2] if match[5] == " {" else ""
+        kept = re.sub(r" *#\[error\(.*\)\]\n", "", match[2] + "\0" + body).replace("#[from] ", "")
+        attributes, _, inside = kept.partition("\0")
+        closed = f" {{\n{inside}}}\n" if match[5] == " {" else ";\n"
+        out += f"{text[at : match.start()]}#[derive({match[1]})]\n{attributes}{match[3]}{closed}{error_texts(match, body, root)}"
+        at = end
+    if "Error)]\n" in text[at:] or "#[error(" in text[at:]:
+        raise Refused("an error stands in a form that no rule is for")
+    return out + text[at:]
 
 
 def displays(text):

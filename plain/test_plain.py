@@ -81,10 +81,25 @@ class Rules(unittest.TestCase):
         text = "use std::fmt::Write;\nfn f() {}\n"
         self.assertEqual(rules.still_used(text, text), text)
 
-    def test_errors_have_words_with_std(self):
+    def test_errors_have_their_words_behind_them(self):
         text = "use thiserror::Error;\n#[derive(Debug, Error)]\n#[error(\"no\")]\nstruct E;\n"
-        self.assertIn('#[cfg_attr(feature = "std", error("no"))]', rules.errors(text, True))
-        self.assertEqual(rules.errors(text, False), text)
+        self.assertEqual(rules.errors(text, "crate"), '#[derive(Debug)]\nstruct E;\n\ncrate::error_texts!(E {\n    E => "no",\n});\n')
+        text = '#[derive(Debug, Error)]\n#[error("at {a}")]\npub struct E {\n    pub a: u8,\n    pub b: u8,\n}\n'
+        self.assertIn('    E { a, .. } => "at {a}",\n', rules.errors(text, "crate"))
+
+    def test_each_variant_of_an_error_has_its_words(self):
+        variants = '    #[error("a {0:?}")]\n    A(#[from(alloc)] One),\n\n    /// Docs.\n    #[error("{n} of {0}")]\n    B { n: u32, m: u8 },\n    #[error("c")]\n    C(Two, u8),\n'
+        made = rules.errors(f"#[derive(Debug, Error)]\npub enum E {{\n{variants}}}\n\nfn f() {{}}\n", "crate")
+        self.assertTrue(made.startswith("#[derive(Debug)]\npub enum E {\n    A(One),\n\n    /// Docs.\n    B { n: u32, m: u8 },\n    C(Two, u8),\n}\n"), made)
+        self.assertIn('    E::A(_0) => "a {_0:?}",\n', made)
+        self.assertIn('    E::C(_, _) => "c",\n', made)
+        self.assertIn("crate::error_from!(E { A(One) });\n", made)
+        self.assertTrue(made.endswith("\nfn f() {}\n"))
+
+    def test_an_error_of_another_form_is_refused(self):
+        for text in ('#[derive(Error)]\nenum E {\n    #[error("{}", 1)]\n    A,\n}\n', '#[derive(Debug, Error)]\nenum E {\n    #[error(transparent)]\n    A(B),\n}\n'):
+            with self.assertRaises(Refused):
+                rules.errors(text, "crate")
 
     def test_what_takes_the_allocator_has_a_name_of_its_own(self):
         text = rules.hosted("//! Docs.\n\nfn f() {\n    x.to_vec(alloc)?;\n    y.collect(rt.alloc())?;\n    format!(in alloc; \"\")?;\n}\n")

@@ -1,3 +1,4 @@
+/* SPDX-License-Identifier: MIT OR Apache-2.0 */
 /* SPIFFS's own names over spiffs.h, for firmware that was written for SPIFFS 0.3.7 in C: include this in the place of its
  * "spiffs.h", leave its .c files out, and link libspiffs.a. The firmware's spiffs_config.h is read where it is there.
  *
