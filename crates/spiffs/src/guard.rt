@@ -1,6 +1,6 @@
 //! What stops a command that removes damaged files for good, or tells what `run` would do: where ids are damaged and other numbers read more
 //! whole files, or the chip's file is shorter than the volume.
-use crate::detect::found_in;
+use crate::detect::{PLACES, found_in};
 use crate::look::{Better, Seen, geometry_of};
 use crate::words::foretells;
 use crate::{Refusal, is_refused};
@@ -12,9 +12,6 @@ use std::fmt;
 use std::io::Write;
 use volume_detect::byte_of;
 use volume_rank::Found;
-
-/// The number of places at which a volume may begin in the largest file.
-const PLACES: u32 = 88_080_384;
 
 /// Another number of blocks, by which more files are whole.
 #[derive(Clone, Copy, Debug, PartialEq, Eq)]

@@ -1,6 +1,6 @@
 //! Which volume a line of the front means.
 use crate::chips::BUSY;
-use crate::detect::found_in;
+use crate::detect::{PLACES, found_in, may_hold_one};
 use crate::stop::Stop;
 use crate::{BOARD_FAULT, NO_VOLUME, OTHER_META, USAGE, tell};
 use front_words::{
@@ -14,9 +14,6 @@ use std::{fs, str};
 use tool_parts::{chip_size_of, unit_of};
 use volume_detect::byte_of;
 use volume_rank::{Found, next_best};
-
-/// The number of places at which a volume may begin in the largest file.
-const PLACES: u32 = 88_080_384;
 
 /// The most volumes that are told where it isn't known which is meant.
 const TOLD: usize = 10;
@@ -174,6 +171,9 @@ fn look_for(rt: &HostRuntime, image: &str, held: &HeldFile) -> Result<Vec<Candid
     let Ok(size) = u32::try_from(held.length()) else {
         return Ok(Vec::new(rt.alloc()));
     };
+    if !may_hold_one(rt, held, size)? {
+        return Ok(Vec::new(rt.alloc()));
+    }
     let bytes = bytes_of(rt, image, held, size)?;
     let found = found_in(rt.alloc(), &bytes)?;
     Ok(ranked(rt.alloc(), &found)?)
