@@ -259,7 +259,7 @@ fn a_put_leaves_what_is_no_plain_file_alone(rt: HostRuntime) -> Result<(), Fail>
     assert!(rt; folder.put(b"a", true, b"hello").is_err());
     assert!(rt; folder.count() == Ok(0));
     let told = folder.trouble().ok_or("no trouble")?.to_string(rt.alloc())?;
-    let wanted = "a file of the folder can't be written: File exists (os error 17)";
+    let wanted = "a file of the folder can't be written: a folder stands in its place";
     assert!(rt; told.as_str() == wanted);
     fs::remove_dir_all(&rt, path)?;
     Ok(())

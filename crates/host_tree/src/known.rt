@@ -1,6 +1,5 @@
 //! The plain files of a tree, found by their names.
 use std::alloc::{AllocError, Global};
-use std::str;
 use tree_paths::is_clash;
 
 /// A plain file of a tree.
@@ -129,11 +128,7 @@ impl KnownFiles {
     }
 }
 
-/// Whether a name has a control character, which nobody wants in the name of a file: a terminal may take it for a command. A name that isn't
-/// UTF-8 has none: its path is spelled.
-pub(crate) fn has_control(name: &[u8]) -> bool {
-    match str::from_utf8(name) {
-        Ok(text) => text.chars().any(|letter| letter.is_control()),
-        Err(_) => false,
-    }
+/// Whether a path has a control character, which nobody wants in the name of a file: a terminal may take it for a command.
+pub(crate) fn has_control(path: &str) -> bool {
+    path.chars().any(|letter| letter.is_control())
 }

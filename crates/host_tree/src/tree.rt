@@ -185,9 +185,12 @@ impl<R: Files + Drop> TreeFiles<R> {
         Ok(entries)
     }
 
-    // Whether a name is put aside since it holds control characters.
-    fn is_unwanted(&self, name: &[u8]) -> bool {
-        !self.is_raw && has_control(name)
+    // Whether a name is put aside since its path in the tree would hold control characters.
+    fn is_unwanted(&self, name: &[u8]) -> Result<bool, AllocError> {
+        if self.is_raw {
+            return Ok(false);
+        }
+        Ok(has_control(path_of(self.alloc, name, false)?.as_str()))
     }
 
     // The path of a file that is made with that name. It goes on behind the top by parts that lead down alone.
@@ -197,13 +200,13 @@ impl<R: Files + Drop> TreeFiles<R> {
         let Ok(listed) = self.listed.try_borrow() else {
             return Err(is_lent());
         };
-        let is_aside = self.is_unwanted(name) || listed.files.clash_with(name)?;
+        let is_aside = self.is_unwanted(name)? || listed.files.clash_with(name)?;
         Ok(new_path_in(self.alloc, self.top.as_str(), name, is_aside)?)
     }
 
     // Notes a file that was made, if its name holds control characters.
     fn note_unwanted(&self, name: &[u8], path: &str) -> io::Result<()> {
-        if !self.is_unwanted(name) {
+        if !self.is_unwanted(name)? {
             return Ok(());
         }
         let path = String::from_str(self.alloc, path)?;

@@ -7,6 +7,7 @@ use front_words::{
     Asked, Candidate, Unsettled, Volume, Word, choose_sure, image_word, settle, top_words,
     wants_detect,
 };
+use geometry::MagicKind;
 use host_edge::{Access, HeldFile, Shown, Trouble};
 use std::alloc::{AllocError, Global};
 use std::{fs, str};
@@ -144,8 +145,8 @@ fn candidate_of(found: &Found) -> Option<Candidate> {
         magic: found.volume.magic,
         whole: found.counts.whole,
         damaged: found.counts.damaged,
-        spoiled: 0,
-        doubled: 0,
+        spoiled: found.spoiled,
+        doubled: found.doubled,
     })
 }
 
@@ -315,6 +316,47 @@ fn choose_volume(
     }
 }
 
+// Whether a volume that was found has these numbers.
+fn has_numbers(found: &Candidate, volume: &Volume) -> bool {
+    found.at == volume.at
+        && found.page == volume.page
+        && found.block == volume.block
+        && found.blocks == volume.blocks
+        && found.magic == volume.magic
+}
+
+// Whether a line writes to a volume of plain magics, gives all numbers but the size, and so may mean two that stand end to end.
+fn may_mean_two(asked: &Asked, volume: &Volume) -> bool {
+    writes(asked)
+        && !wants_detect(asked)
+        && asked.size.is_none()
+        && volume.magic == MagicKind::Plain
+}
+
+// Refuses a volume where ids of it have two header pages or more, and nothing says how many bytes it has.
+fn check_one(
+    rt: &HostRuntime,
+    image: &str,
+    asked: &Asked,
+    held: Option<&HeldFile>,
+    volume: &Volume,
+) -> Result<(), Stop> {
+    let Some(held) = held else {
+        return Ok(());
+    };
+    if !may_mean_two(asked, volume) {
+        return Ok(());
+    }
+    let found = look_for(rt, image, held)?;
+    for one in found.iter() {
+        if one.doubled >= 2 && has_numbers(one, volume) {
+            let why = Unsettled::Doubled(one.doubled);
+            return Err(refuse_volume(rt, image, asked, &found, why));
+        }
+    }
+    Ok(())
+}
+
 /// The volume that a line means, by its numbers, a preset, or what is found in its image.
 pub fn find_meant<'w>(
     rt: &HostRuntime,
@@ -329,6 +371,7 @@ pub fn find_meant<'w>(
     };
     let found = find_candidates(rt, image, &asked, held.as_ref())?;
     let (volume, is_harmed) = choose_volume(rt, image, &asked, length, &found)?;
+    check_one(rt, image, &asked, held.as_ref(), &volume)?;
     let top = top_words(rt.alloc(), asked.word, &volume, image)?;
     let size = chip_size_of(&top, 1);
     let unit = unit_of(&top);
