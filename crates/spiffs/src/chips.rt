@@ -69,7 +69,7 @@ pub fn open_row(
 // Whether one of the names leads to the file that a path leads to.
 fn is_among(rt: &HostRuntime, paths: &[&str], path: &str) -> bool {
     for other in paths {
-        if !path.is_empty() && is_one_file(rt, other, path) {
+        if !path.is_empty() && is_one_file(rt, *other, path) {
             return true;
         }
     }
@@ -83,6 +83,7 @@ pub fn check_names(rt: &HostRuntime, words: &[String], names: &str) -> Result<()
     }
     let paths = chip_paths(rt.alloc(), names)?;
     for (i, path) in paths.iter().enumerate() {
+        let path = *path;
         if is_among(rt, paths.get(..i).unwrap_or(&[]), path) {
             let path = Shown(path);
             // (if standard error fails too there is nobody to tell)
