@@ -12,6 +12,12 @@ KINDS = {
     "MAGIC": "len plain",
     "tables": "tables",
 }
+# Where a completion lies below `share`: unpacked from a tar file, and installed by a package.
+SHELLS = {
+    "bash": ("bash-completion/completions/spiffs", "bash-completion/completions/spiffs"),
+    "zsh": ("zsh/site-functions/_spiffs", "zsh/vendor-completions/_spiffs"),
+    "fish": ("fish/vendor_completions.d/spiffs.fish", "fish/vendor_completions.d/spiffs.fish"),
+}
 FILES, FOLDERS = "CHIP|IMAGE|FILE", "FOLDER"
 # The paragraphs that begin a section of the man page, by their first words.
 SECTIONS = (("PAGE ", "WORDS"), ("A script is", "SCRIPTS"), ("A list is", "OUTPUT"), ("Statuses: ", "EXIT STATUS"))
@@ -209,9 +215,56 @@ esac
 """
 
 
+FISH = """\
+# Completes the words of spiffs. Made of what `spiffs --help` prints.
+function __spiffs_words
+    set -l words (commandline -opc)
+    set -e words[1]
+    test "$words[1]" = --force; and set -e words[1]
+    set -q words[1]; and printf '%%s\\n' $words
+end
+
+function __spiffs_first
+    test (count (__spiffs_words)) -eq 0
+end
+
+function __spiffs_kind
+    set -l words (__spiffs_words)
+    set -l kinds
+    switch "$words[1]"
+%(words)s
+    end
+    set -l at (count $words)
+    test $at -gt 0; and set -q kinds[$at]; and contains -- $kinds[$at] $argv
+end
+
+complete -c spiffs -f
+%(told)s
+complete -c spiffs -n 'test (count (commandline -opc)) -eq 1' -a '%(options)s'
+complete -c spiffs -n '__spiffs_kind %(files)s' -F
+complete -c spiffs -n '__spiffs_kind %(folders)s' -a '(__fish_complete_directories)'
+%(values)s
+"""
+
+
+def in_fish(text):
+    return "'" + text.replace("\\", "\\\\").replace("'", "\\'") + "'"
+
+
+def fish_completion(told):
+    """The completion for fish."""
+    parts = {"options": " ".join(told.options), "files": FILES.replace("|", " "), "folders": FOLDERS.replace("|", " ")}
+    parts["words"] = "\n".join(f"        case {form.verb}\n            set kinds {' '.join(map(in_fish, form.words))}" for form in told.verbs)
+    parts["told"] = "\n".join(f"complete -c spiffs -n __spiffs_first -a {form.verb} -d {in_fish(' '.join(form.text))}" for form in told.verbs)
+    parts["values"] = "\n".join(f"complete -c spiffs -n '__spiffs_kind {kind}' -a {in_fish(values)}" for kind, values in KINDS.items())
+    return FISH % parts
+
+
 def completion(text, shell):
-    """The completion for `bash` or `zsh`."""
+    """The completion for a shell of SHELLS."""
     told = Help(text)
+    if shell == "fish":
+        return fish_completion(told)
     parts = {"options": " ".join(told.options), "files": FILES, "folders": FOLDERS}
     if shell == "bash":
         parts["words"] = "\n".join(f"    [{form.verb}]={quoted(' '.join(form.words))}" for form in told.verbs)

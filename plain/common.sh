@@ -115,6 +115,27 @@ set_target() {
   made=$3/target/$1/release
 }
 
+# As `set_target`, for the program that goes into a release, which a linker for the target is needed for, too. A library that is built of Debian's
+# sources is linked with the libraries of musl-gcc, and with gcc's for unwinding.
+#
+#   set_program_target TARGET FOLDER
+set_program_target() {
+  local name=${1//-/_} flags="--remap-path-prefix=$2=plain" gcc=cc
+  set_target "$1" std "$2" || return
+  case $1 in
+    aarch64-*-gnu) [ "$(uname -m)" = aarch64 ] || gcc=aarch64-linux-gnu-gcc ;;
+    *-musl)
+      if [ "$rustc" != rustc ]; then
+        gcc=musl-gcc
+        flags+=" -Clink-self-contained=no -Ctarget-feature=+crt-static -Crelocation-model=static -L$2/unwind"
+        mkdir -p "$2/unwind" && ln -sfn "$(cc -print-file-name=libgcc_eh.a)" "$2/unwind/libunwind.a" || return
+      fi
+      ;;
+  esac
+  command -v "$gcc" >/dev/null || return
+  for_target=(env "CARGO_TARGET_${name^^}_LINKER=$gcc" "CARGO_TARGET_${name^^}_RUSTFLAGS=$flags" "${for_target[@]}")
+}
+
 # Writes down which crates the workspaces of the edition take, where that isn't done yet: of the sources beside a library cargo would take newer
 # ones, which it doesn't find in the next build without them.
 lock_crates() {
