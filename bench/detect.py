@@ -10,6 +10,8 @@ import sys
 
 PAGES = [128 << i for i in range(6)]
 BLOCKS = [4096 << i for i in range(7)]
+# how many blocks one behind the other may lack their magic
+WIDEST_GAP = {"plain": 2, "len": 8}
 
 
 def word(data, at):
@@ -38,16 +40,34 @@ class Volume:
         magic = 0x0529 ^ self.page ^ (self.blocks - block if self.kind == "len" else 0)
         return word(self.data, self.at + block * self.block + self.lookups * self.page - 4) == magic
 
-    def is_row(self):
+    def marks(self):
+        """Which blocks have their magic, as text: `x`, or `.` where one lacks it."""
+        return "".join("x" if self.has_magic(block) else "." for block in range(self.blocks))
+
+    def spoiled(self):
+        return self.marks().count(".")
+
+    def is_bounded(self):
+        """It fits into the file, and no gap is too wide."""
         fits = 0 <= self.at and self.at + self.blocks * self.block <= len(self.data)
-        return self.is_taken() and fits and sum(not self.has_magic(block) for block in range(self.blocks)) <= 1
+        return self.is_taken() and fits and "." * (WIDEST_GAP[self.kind] + 1) not in self.marks()
+
+    def is_row(self):
+        if not self.is_bounded():
+            return False
+        marks = self.marks()
+        marked = marks.count("x")
+        if marks[0] == "." or (self.kind == "len" and marked < 3):
+            return marked >= self.blocks - 1
+        return True
 
     def longer(self, more):
         return Volume(self.data, self.at - more * self.block, self.page, self.block, self.blocks + more, self.kind)
 
-    def is_tail(self):
+    def is_rest(self):
+        """It is what is left of a longer row behind a gap, or any part of one."""
         others = (self.longer(more) for more in range(1, self.at // self.block + 1))
-        return any(other.is_row() and other.has_magic(0) for other in others)
+        return any(other.is_bounded() and other.has_magic(0) for other in others)
 
     def page_of(self, number):
         start = self.at + number * self.page
@@ -79,6 +99,12 @@ class Volume:
                 names.add(name)
                 whole += 1
         return whole, len(heads) - whole
+
+    @staticmethod
+    def doubled(live):
+        """How many ids have two live header pages or more."""
+        heads = [word(page, 0) % 0x8000 for page in live.values() if word(page, 0) >= 0x8000 and word(page, 2) == 0]
+        return sum(heads.count(ident) > 1 for ident in set(heads))
 
     def whole_name(self, live, index, ident, head, meta):
         field = bytes(head[13:45])
@@ -121,7 +147,9 @@ def volumes(data):
                     rows = [volume for volume in tried if volume.is_row()]
                     if kind == "plain":
                         rows = [volume for volume in rows if volume.has_magic(volume.blocks - 1)][-1:]
-                    yield from (volume for volume in rows if not volume.is_tail())
+                    elif any(volume.has_magic(0) for volume in rows):
+                        rows = [volume for volume in rows if volume.has_magic(0)]
+                    yield from (volume for volume in rows if not volume.is_rest())
 
 
 def lines(data):
@@ -140,6 +168,10 @@ def lines(data):
             f"at {volume.at} page {volume.page} block {volume.block} blocks {volume.blocks} meta {metas}"
             f" magic {volume.kind} files {most} damaged {damaged}"
         )
+        spoiled = volume.spoiled()
+        line += f" spoiled {spoiled}" if spoiled > 1 else ""
+        doubled = volume.doubled(live)
+        line += f" doubled {doubled}" if doubled > 1 else ""
         found.append((-most, damaged, place, line))
     return [line for _, _, _, line in sorted(found)]
 

@@ -1,5 +1,5 @@
 -- The lines of what is found.
-use Rattle.std.specs.Prelude.{ℕ, List, [], ◌∷◌, ◌++◌, ◌==◌, if◌then◌else◌, codes, decimal}
+use Rattle.std.specs.Prelude.{ℕ, List, [], ◌∷◌, ◌++◌, ◌==◌, if◌then◌else◌, codes, decimal, nat_lt}
 use Rattle.std.specs.List.{flat_map}
 use Rattle.geometry.specs.declared.magic.MagicKind.{MagicKind}
 use Rattle.geometry.specs.declared.magic.MagicKind.TheVariants.{Plain, Length}
@@ -25,9 +25,13 @@ unfoldable pub counts_text : Found → List ℕ
 counts_text f = (codes " meta " ++ decimal f.volume.meta) ++ last_text f.volume.meta f.last_meta ++ codes " magic " ++ kind_word f.volume.magic
     ++ (codes " files " ++ decimal f.counts.whole) ++ (codes " damaged " ++ decimal f.counts.damaged)
 
--- the line of a candidate
+-- how many there are of what a volume has none of, or one; nothing then
+abbrev pub several_text : List ℕ → ℕ → List ℕ
+several_text word count = if nat_lt count 2 then [] else word ++ decimal count
+
+-- the line of a candidate: where it is, what it reads, how many blocks lack their magic, and how many ids are doubled, each if these are two or more
 unfoldable pub found_line : Found → List ℕ
-found_line f = place_text f ++ counts_text f ++ 10 ∷ []
+found_line f = place_text f ++ counts_text f ++ several_text (codes " spoiled ") f.spoiled ++ several_text (codes " doubled ") f.doubled ++ 10 ∷ []
 
 -- the lines of candidates
 unfoldable pub found_lines : List Found → List ℕ

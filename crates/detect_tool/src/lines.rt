@@ -1,7 +1,7 @@
 //! The line of a candidate.
 ghost use Rattle.std.specs.Prelude.{◌≡◌, ◌+◌, ◌*◌, ◌<◌, ◌≤◌, ◌^◌, length};
 ghost use Rattle.call_script.specs.Pieces.{Puts};
-ghost use Rattle.detect_tool.specs.Lines.{kind_word, last_text, place_text, counts_text, found_line};
+ghost use Rattle.detect_tool.specs.Lines.{kind_word, last_text, place_text, counts_text, several_text, found_line};
 
 use call_script::{put, put_count};
 use geometry::MagicKind;
@@ -65,6 +65,20 @@ fn put_counts(into: &mut [u8], at: usize, f: &Found) -> usize
     put_count(into, at, b" damaged ", f.counts.damaged)
 }
 
+// Writes how many there are of what a volume has none of, or one: nothing then.
+fn put_several(into: &mut [u8], at: usize, word: &[u8], count: u32) -> usize
+    requires word { length word.now ≤ 9 }
+    requires room { at + 19 ≤ length into.old }
+    ensures put { Puts into.old at (several_text word.now count) into.new result }
+    ensures bound { result ≤ at + 19 }
+{
+    if count < 2 {
+        put(into, at, b"")
+    } else {
+        put_count(into, at, word, count)
+    }
+}
+
 /// Writes the line of a candidate at the front.
 #[tactic(auto, using(call_script::proofs::Putting::puts_more), unfolding(crate::specs::Lines::found_line))]
 pub(crate) fn put_found(into: &mut [u8], f: &Found) -> usize
@@ -75,5 +89,7 @@ pub(crate) fn put_found(into: &mut [u8], f: &Found) -> usize
 {
     let at = put_place(into, f);
     let at = put_counts(into, at, f);
+    let at = put_several(into, at, b" spoiled ", f.spoiled);
+    let at = put_several(into, at, b" doubled ", f.doubled);
     put(into, at, b"\n")
 }

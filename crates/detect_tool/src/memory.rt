@@ -64,6 +64,8 @@ pub fn blank_place() -> Result<Found, GeoErr> {
         volume,
         last_meta: 0,
         counts,
+        spoiled: 0,
+        doubled: 0,
     })
 }
 

@@ -6,12 +6,12 @@ use Rattle.geometry.specs.Rules.{lookups_in}
 use Rattle.geometry.specs.Numbers.{lookups, slots, right_magic}
 use Rattle.nor_core.specs.Flash.{word_at}
 use Rattle.image_model.specs.Places.{has_magic, slot_of}
-use Rattle.image_model.specs.Kinds.{spoiled_blocks}
-use Rattle.volume_detect.specs.Rows.{is_marked, word_of, AtMostOne}
+use Rattle.volume_detect.specs.Marks.{HasNoWideGap}
+use Rattle.volume_detect.specs.Rows.{is_marked, word_of}
 use Rattle.volume_detect.specs.Words.{HasWords, word_place}
 use Rattle.volume_detect.specs.Spots.{word_class}
 use Rattle.volume_detect.proofs.Sizes.{lookup_bytes, class_few, power_least}
-use Rattle.volume_detect.proofs.Gaps.{gap_from_count, count_from_gap, gap_by}
+use Rattle.volume_detect.proofs.Gaps.{gaps_by}
 
 -- a word of the bytes from one on
 word_in_rest : (file : List ℕ) (n x : ℕ) → word_at (drop n file) x ≡ word_at file (n + x)
@@ -55,9 +55,9 @@ module _ (file words : List ℕ) (u i j : ℕ) (g : Geometry) (has : HasWords fi
   block_fits : (b : ℕ) → 4096 * u + g.blocks * g.block ≤ length file → b < g.blocks → 4096 * u + (b + 1) * g.block ≤ length file
   block_fits b fits below = let most : (b + 1) * g.block ≤ g.blocks * g.block = mul-le-mul_right g.block (omega arith) in omega (arith, fits, most)
 
-  -- at most one block lacks its magic
-  pub count_from_words : 4096 * u + g.blocks * g.block ≤ length file → AtMostOne (is_marked words (6 * u + word_class j i) (6 * 2 ^ j) g) g.blocks → spoiled_blocks g (drop (4096 * u) file) ≤ 1
-  count_from_words fits gap = count_from_gap g (drop (4096 * u) file) (gap_by (is_marked words (6 * u + word_class j i) (6 * 2 ^ j) g) (has_magic g (drop (4096 * u) file)) g.blocks (λ b below. marked_is b (block_fits b fits below)) gap)
+  -- no gap is too wide
+  pub gaps_from_words : (widest : ℕ) → 4096 * u + g.blocks * g.block ≤ length file → HasNoWideGap (is_marked words (6 * u + word_class j i) (6 * 2 ^ j) g) widest g.blocks → HasNoWideGap (has_magic g (drop (4096 * u) file)) widest g.blocks
+  gaps_from_words widest fits gaps = gaps_by (is_marked words (6 * u + word_class j i) (6 * 2 ^ j) g) (has_magic g (drop (4096 * u) file)) widest g.blocks (λ b below. marked_is b (block_fits b fits below)) gaps
 
-  pub words_from_count : 4096 * u + g.blocks * g.block ≤ length file → spoiled_blocks g (drop (4096 * u) file) ≤ 1 → AtMostOne (is_marked words (6 * u + word_class j i) (6 * 2 ^ j) g) g.blocks
-  words_from_count fits few = gap_by (has_magic g (drop (4096 * u) file)) (is_marked words (6 * u + word_class j i) (6 * 2 ^ j) g) g.blocks (λ b below. sym (marked_is b (block_fits b fits below))) (gap_from_count g (drop (4096 * u) file) few)
+  pub words_from_gaps : (widest : ℕ) → 4096 * u + g.blocks * g.block ≤ length file → HasNoWideGap (has_magic g (drop (4096 * u) file)) widest g.blocks → HasNoWideGap (is_marked words (6 * u + word_class j i) (6 * 2 ^ j) g) widest g.blocks
+  words_from_gaps widest fits gaps = gaps_by (has_magic g (drop (4096 * u) file)) (is_marked words (6 * u + word_class j i) (6 * 2 ^ j) g) widest g.blocks (λ b below. sym (marked_is b (block_fits b fits below))) gaps

@@ -8,9 +8,10 @@ use Rattle.geometry.specs.Rules.{IsVolume, is_page}
 use Rattle.geometry.specs.Numbers.{lookups}
 use Rattle.geometry.proofs.Geometries.{made}
 use Rattle.image_model.specs.Places.{has_magic, slot_of}
-use Rattle.volume_detect.specs.Candidates.{IsTail, IsLongest, IsCandidate, IsFront}
+use Rattle.volume_detect.specs.Candidates.{IsRest, IsLongest, IsCandidate, IsFront}
+use Rattle.volume_detect.specs.Marks.{IsMarkedRow}
 use Rattle.volume_detect.specs.Places.{IsFoundFirst}
-use Rattle.volume_detect.proofs.Gaps.{count_from_gap}
+use Rattle.volume_detect.proofs.Gaps.{none_fails}
 use Rattle.volume_detect.proofs.Sizes.{power_least}
 use Rattle.volume_detect.proofs.Numbered.{has_place}
 
@@ -88,10 +89,10 @@ module _ (file : List ℕ) (g : Geometry) (front : IsFront file g) where
   wide = let least : 1 ≤ 2 ^ front.block.0 = power_least front.block.0 front.block.1 in omega (arith, front.block.2, least)
 
   -- no volume begins before the file
-  no_tail : (more : ℕ) (h : Geometry) → IsTail file 0 g more h → ⊥
-  no_tail more h tail =
-      let some : 1 * g.block ≤ more * g.block = mul-le-mul_right g.block tail.some in
-      absurd (omega (arith, tail.inside, some, wide))
+  no_rest : (more : ℕ) (h : Geometry) → IsRest file 0 g more h → ⊥
+  no_rest more h rest =
+      let some : 1 * g.block ≤ more * g.block = mul-le-mul_right g.block rest.some in
+      absurd (omega (arith, rest.inside, some, wide))
 
   -- none of the same blocks is longer than the file
   longest : g.magic ≡ Plain → IsLongest file 0 g
@@ -111,12 +112,23 @@ module _ (file : List ℕ) (g : Geometry) (front : IsFront file g) where
         front.ends;
   }
 
+  -- all its blocks have their magic
+  first_has : has_magic g file 0 ≡ true
+  first_has = let three : 3 ≤ g.blocks = g.valid.some_blocks in front.magics 0 (omega (arith, three))
+
+  row : IsMarkedRow (has_magic g file) g.magic g.blocks
+  row = record {
+    gaps = λ b low lacks. both_ways (has_magic g file b) (lacks b (omega arith) (omega arith)) (front.magics b (omega (arith, low)));
+    few = omega (arith, none_fails (has_magic g file) g.blocks front.magics);
+  }
+
   front_candidate : IsCandidate file 0 g
   front_candidate = record {
     place = record { whole = refl; page = page_power g.page (taken_page g.page g.valid.page_least g.valid.page_most g.valid.page_divides); block = front.block; phys = front.phys };
-    row = record { fits = omega (arith, fits); magics = count_from_gap g file (λ b c low low' lacks lacks'. absurd (both_ways (has_magic g file b) lacks (front.magics b low))) };
+    row = record { fits = omega (arith, fits); marks = row };
     longest = longest;
-    no_tail = no_tail;
+    told = λ kind lacks h same row first. both_ways (has_magic g file 0) lacks first_has;
+    no_rest = no_rest;
   }
 
 -- the volume with no meta bytes is at the front too

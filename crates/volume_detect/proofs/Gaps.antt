@@ -1,12 +1,12 @@
--- At most one block lacks its magic: counted, and said of each two.
-use Rattle.std.proofs.Common.{◌≡◌, ℕ, zero, suc, ◌+◌, ◌<◌, ◌≤◌, List, length, Bool, true, false, not, refl, sym, ◌∙◌, ap, arith, ⊎_elim}
+-- How many blocks lack their magic: counted, and said of each two.
+use Rattle.std.proofs.Common.{◌≡◌, ℕ, zero, suc, ◌+◌, ◌<◌, ◌≤◌, length, Bool, true, false, not, refl, sym, ◌∙◌, ap, subst, arith, ⊎_elim}
 use Rattle.std.specs.Prelude.{filter}
 use Rattle.std.specs.List.{range_with_len}
 use Rattle.std.proofs.lemmas.Bool.{cases_Bool, cases_lt, false_from_ne_true, not-true}
-use Rattle.geometry.specs.declared.geometry.Geometry.{Geometry}
-use Rattle.image_model.specs.Places.{has_magic}
-use Rattle.image_model.specs.Kinds.{spoiled_blocks}
-use Rattle.volume_detect.specs.Rows.{AtMostOne}
+use Rattle.geometry.specs.declared.magic.MagicKind.{MagicKind}
+use Rattle.geometry.specs.declared.magic.MagicKind.TheVariants.{Plain, Length}
+use Rattle.volume_detect.specs.Marks.{failing, HasNoWideGap, widest_gap, most_failing, IsMarkedRow}
+use Rattle.volume_detect.specs.Rows.{AtMostOne, LongestRow, LongestOfOne, LongestOfGaps}
 
 -- one that passes is counted
 one_at_least : (test : ℕ → Bool) (a n q : ℕ) → a ≤ q → q < a + n → test q ≡ true → 1 ≤ length (filter test (range_with_len a n))
@@ -54,15 +54,69 @@ one_at_most test a (suc n) one = ⊎_elim
     (λ (no : test a ≡ false). rw no (one_at_most test (a + 1) n (λ b c low high low' high' here there. one b c (omega (arith, low)) (omega (arith, high)) (omega (arith, low')) (omega (arith, high')) here there)))
     (cases_Bool (test a))
 
--- of the blocks of a volume
-pub gap_from_count : (g : Geometry) (image : List ℕ) → spoiled_blocks g image ≤ 1 → AtMostOne (has_magic g image) g.blocks
-unfolding spoiled_blocks
-gap_from_count g image few b c low low' lacks lacks' = same_one (λ block. not (has_magic g image block)) 0 g.blocks b c few (omega arith) (omega arith) (rw lacks refl) (omega arith) (omega arith) (rw lacks' refl)
+-- of the blocks of a row
+pub one_fails : (good : ℕ → Bool) (n : ℕ) → failing good n ≤ 1 → AtMostOne good n
+one_fails good n few b c low low' lacks lacks' = same_one (λ block. not (good block)) 0 n b c few (omega arith) (omega arith) (rw lacks refl) (omega arith) (omega arith) (rw lacks' refl)
 
-pub count_from_gap : (g : Geometry) (image : List ℕ) → AtMostOne (has_magic g image) g.blocks → spoiled_blocks g image ≤ 1
-unfolding spoiled_blocks
-count_from_gap g image gap = one_at_most (λ block. not (has_magic g image block)) 0 g.blocks (λ b c low high low' high' here there. gap b c (omega (arith, high)) (omega (arith, high')) (not-true _ here) (not-true _ there))
+pub fails_once : (good : ℕ → Bool) (n : ℕ) → AtMostOne good n → failing good n ≤ 1
+fails_once good n gap = one_at_most (λ block. not (good block)) 0 n (λ b c low high low' high' here there. gap b c (omega (arith, high)) (omega (arith, high')) (not-true _ here) (not-true _ there))
+
+-- no more are counted than there are
+counted_most : (test : ℕ → Bool) (a n : ℕ) → length (filter test (range_with_len a n)) ≤ n
+counted_most test a zero = omega arith
+counted_most test a (suc n) = ⊎_elim
+    (λ (yes : test a ≡ true). let rest = counted_most test (a + 1) n in rw yes (omega (arith, rest)))
+    (λ (no : test a ≡ false). let rest = counted_most test (a + 1) n in rw no (omega (arith, rest)))
+    (cases_Bool (test a))
+
+-- where each passes none fails
+pub none_fails : (good : ℕ → Bool) (n : ℕ) → ((b : ℕ) → b < n → good b ≡ true) → failing good n ≡ 0
+none_fails good n all = none_counted (λ block. not (good block)) 0 n (λ q low high. rw (all q (omega (arith, high))) refl)
+
+-- where at most one does no gap is wide
+pub one_narrow : (good : ℕ → Bool) (widest n : ℕ) → 1 ≤ widest → AtMostOne good n → HasNoWideGap good widest n
+one_narrow good widest n some gap b low lacks =
+    let same : b ≡ b + 1 = gap b (b + 1) (omega (arith, low)) (omega (arith, low, some)) (lacks b (omega arith) (omega arith)) (lacks (b + 1) (omega arith) (omega (arith, some))) in
+    absurd (omega (arith, same))
+
+pub widest_some : (kind : MagicKind) → 1 ≤ widest_gap kind
+widest_some Plain = omega arith
+widest_some Length = omega arith
+
+-- the longest row, by its first block
+pub row_of_gaps : (good : ℕ → Bool) (most n : ℕ) → good 0 ≡ true → LongestOfGaps good most n → LongestRow good most n
+row_of_gaps good most n here longest = record {
+  few = longest.few;
+  last = longest.last;
+  row = record { gaps = longest.gaps; few = rw here (counted_most (λ block. not (good block)) 0 n) };
+  longest = λ k more few last row. longest.longest k more few last row.gaps;
+}
+
+pub row_of_one : (good : ℕ → Bool) (most n : ℕ) → good 0 ≡ false → LongestOfOne good most n → LongestRow good most n
+row_of_one good most n here longest = record {
+  few = longest.few;
+  last = longest.last;
+  row = record { gaps = one_narrow good 2 n (omega arith) longest.gap; few = rw here (fails_once good n longest.gap) };
+  longest = λ k more few last row. longest.longest k more few last (one_fails good k (subst (λ (first : Bool). failing good k ≤ most_failing Plain first k) here row.few));
+}
 
 -- a test that is another at each number
-pub gap_by : (good other : ℕ → Bool) (n : ℕ) → ((b : ℕ) → b < n → good b ≡ other b) → AtMostOne good n → AtMostOne other n
-gap_by good other n same gap b c low low' lacks lacks' = gap b c low low' (same b low ∙ lacks) (same c low' ∙ lacks')
+same_count : (good other : ℕ → Bool) (a n : ℕ) → ((b : ℕ) → a ≤ b → b < a + n → good b ≡ other b) → length (filter (λ b. not (good b)) (range_with_len a n)) ≡ length (filter (λ b. not (other b)) (range_with_len a n))
+same_count good other a zero same = refl
+same_count good other a (suc n) same =
+    let rest = same_count good other (a + 1) n (λ b low high. same b (omega (arith, low)) (omega (arith, high))) in
+    let here : good a ≡ other a = same a (omega arith) (omega arith) in
+    ⊎_elim
+    (λ (yes : good a ≡ true). rw (yes, sym here ∙ yes) rest)
+    (λ (no : good a ≡ false). rw (no, sym here ∙ no) (ap (λ (k : ℕ). suc k) rest))
+    (cases_Bool (good a))
+
+pub gaps_by : (good other : ℕ → Bool) (widest n : ℕ) → ((b : ℕ) → b < n → good b ≡ other b) → HasNoWideGap good widest n → HasNoWideGap other widest n
+gaps_by good other widest n same gaps b low lacks = gaps b low (λ c from to. same c (omega (arith, low, to)) ∙ lacks c from to)
+
+pub row_by : (good other : ℕ → Bool) (kind : MagicKind) (n : ℕ) → 0 < n → ((b : ℕ) → b < n → good b ≡ other b) → IsMarkedRow good kind n → IsMarkedRow other kind n
+row_by good other kind n some same row = record {
+  gaps = gaps_by good other (widest_gap kind) n same row.gaps;
+  few = (let count : failing good n ≡ failing other n = same_count good other 0 n (λ b low high. same b (omega (arith, high))) in
+      subst (λ (x : ℕ). x ≤ most_failing kind (other 0) n) count (subst (λ (first : Bool). failing good n ≤ most_failing kind first n) (same 0 some) row.few));
+}

@@ -1,5 +1,6 @@
 pub mod Gaps
 pub mod Steps
+pub mod Runs
 pub mod Sizes
 pub mod Magics
 pub mod Refused

@@ -1,7 +1,7 @@
--- A tail of a longer row is one of a row that is longer by a block or two.
-use Rattle.std.proofs.Common.{◌≡◌, ℕ, ◌+◌, ◌-◌, ◌*◌, ◌<◌, ◌≤◌, ◌⊎◌, ◌==◌, true, false, List, bit_xor, inl, inr, ⊎_elim, refl, sym, ap, ◌∙◌, subst, arith}
+-- The rest of a longer row is that of one which is longer by no more blocks than a gap is wide, and one.
+use Rattle.std.proofs.Common.{◌≡◌, ℕ, zero, suc, Bool, ◌+◌, ◌-◌, ◌*◌, ◌<◌, ◌≤◌, ◌⊎◌, ◌==◌, true, false, List, bit_xor, inl, inr, ⊎_elim, refl, sym, ap, ◌∙◌, subst, arith}
 use Rattle.std.proofs.Math.Nat.{mul-le-mul_right, mul-le-mul_left}
-use Rattle.std.proofs.lemmas.Bool.{cases_Bool, true_from_ne_false, both_ways}
+use Rattle.std.proofs.lemmas.Bool.{cases_Bool, cases_lt, both_ways}
 use Rattle.geometry.specs.declared.geometry.Geometry.{Geometry}
 use Rattle.geometry.specs.declared.magic.MagicKind.{MagicKind}
 use Rattle.geometry.specs.declared.magic.MagicKind.TheVariants.{Plain, Length}
@@ -9,8 +9,9 @@ use Rattle.geometry.specs.Rules.{pages_in}
 use Rattle.geometry.specs.Numbers.{right_magic, length_mark}
 use Rattle.volume_detect.specs.Candidates.{SameBlocks}
 use Rattle.geometry.proofs.Geometries.{same_numbers}
-use Rattle.volume_detect.specs.Rows.{is_marked, word_of, AtMostOne, TwoFail}
-use Rattle.volume_detect.specs.Tails.{IsTailBy}
+use Rattle.volume_detect.specs.Marks.{HasNoWideGap, widest_gap}
+use Rattle.volume_detect.specs.Rows.{is_marked, word_of}
+use Rattle.volume_detect.specs.Tails.{IsRestBy, IsNearRest}
 use Rattle.volume_detect.proofs.Refused.{with_blocks}
 
 -- a block is as far from the end in both
@@ -33,29 +34,49 @@ same_marked words first step g h more b same blocks inside =
 parted : (a b c : ℕ) → a * (b + c) ≡ a * b + a * c
 parted a b c = omega arith
 
+-- no gap of a row is too wide in a part at its end
+shift_gaps : (good other : ℕ → Bool) (widest n m d : ℕ) → ((b : ℕ) → good (d + b) ≡ other b) → m ≡ n + d → HasNoWideGap good widest m → HasNoWideGap other widest n
+shift_gaps good other widest n m d same is gaps b low lacks = gaps (d + b) (omega (arith, low, is)) (λ c from to.
+    let back : d + (c - d) ≡ c = omega (arith, from) in
+    ap good (sym back) ∙ same (c - d) ∙ lacks (c - d) (omega (arith, from)) (omega (arith, to)))
+
+-- one of so many blocks passes, or none does
+find_mark : (good : ℕ → Bool) (a n : ℕ) → ((c : ℕ) × (a ≤ c) × (c < a + n) × (good c ≡ true)) ⊎ ((c : ℕ) → a ≤ c → c < a + n → good c ≡ false)
+find_mark good a zero = inr (λ c low high. absurd (omega (arith, low, high)))
+find_mark good a (suc n) = ⊎_elim
+    (λ (yes : good a ≡ true). inl (a, omega arith, omega arith, yes))
+    (λ (no : good a ≡ false). ⊎_elim
+    (λ (later : (c : ℕ) × (a + 1 ≤ c) × (c < a + 1 + n) × (good c ≡ true)). inl (later.0, omega (arith, later.1), omega (arith, later.2), later.3))
+    (λ (none : (c : ℕ) → a + 1 ≤ c → c < a + 1 + n → good c ≡ false). inr (λ c low high. ⊎_elim
+    (λ (more : a < c). none c (omega (arith, more)) (omega (arith, high)))
+    (λ (same : c ≤ a). let e : c ≡ a = omega (arith, low, same) in ap good e ∙ no)
+    (cases_lt a c)))
+    (find_mark good (a + 1) n))
+    (cases_Bool (good a))
+
 -- The row that is longer by fewer blocks, where the first of them has its magic.
-part_tail : (words : List ℕ) (first step : ℕ) (g : Geometry) (more k : ℕ) (tail : IsTailBy words first step g more) → 0 < k → k ≤ more → is_marked words (first - step * more) step tail.longer (more - k) ≡ true → IsTailBy words first step g k
-part_tail words first step g more k tail some part marked =
-    let h = tail.longer in
+part_rest : (words : List ℕ) (first step : ℕ) (g : Geometry) (more k : ℕ) (rest : IsRestBy words first step g more) → 0 < k → k ≤ more → is_marked words (first - step * more) step rest.longer (more - k) ≡ true → IsRestBy words first step g k
+part_rest words first step g more k rest some part marked =
+    let h = rest.longer in
     let pages : h.blocks * pages_in h.page h.block ≤ 65535 = h.valid.few_pages in
-    let pages' : h.blocks * pages_in g.page g.block ≤ 65535 = subst (λ (x : ℕ). h.blocks * pages_in x g.block ≤ 65535) tail.same.page (subst (λ (x : ℕ). h.blocks * pages_in h.page x ≤ 65535) tail.same.block pages) in
-    let fewer : (g.blocks + k) * pages_in g.page g.block ≤ h.blocks * pages_in g.page g.block = mul-le-mul_right (pages_in g.page g.block) (omega (arith, tail.blocks, part)) in
+    let pages' : h.blocks * pages_in g.page g.block ≤ 65535 = subst (λ (x : ℕ). h.blocks * pages_in x g.block ≤ 65535) rest.same.page (subst (λ (x : ℕ). h.blocks * pages_in h.page x ≤ 65535) rest.same.block pages) in
+    let fewer : (g.blocks + k) * pages_in g.page g.block ≤ h.blocks * pages_in g.page g.block = mul-le-mul_right (pages_in g.page g.block) (omega (arith, rest.blocks, part)) in
     let least : 3 ≤ g.blocks = g.valid.some_blocks in
     let w = with_blocks g (g.blocks + k) (omega (arith, least)) (omega (arith, fewer, pages')) in
     let l : Geometry = w.0 in
     let near : step * k ≤ step * more = mul-le-mul_left step part in
-    let inside : step * k ≤ first = omega (arith, near, tail.inside) in
-    let rest : more ≡ k + (more - k) = omega arith in
-    let parts : step * more ≡ step * k + step * (more - k) = ap (λ (x : ℕ). step * x) rest ∙ parted step k (more - k) in
-    let inside' : step * (more - k) ≤ first - step * k = omega (arith, parts, tail.inside) in
+    let inside : step * k ≤ first = omega (arith, near, rest.inside) in
+    let whole : more ≡ k + (more - k) = omega arith in
+    let parts : step * more ≡ step * k + step * (more - k) = ap (λ (x : ℕ). step * x) whole ∙ parted step k (more - k) in
+    let inside' : step * (more - k) ≤ first - step * k = omega (arith, parts, rest.inside) in
     let from : first - step * k - step * (more - k) ≡ first - step * more = omega (arith, parts) in
-    let blocks : h.blocks ≡ l.blocks + (more - k) = omega (arith, tail.blocks, w.2, part) in
+    let blocks : h.blocks ≡ l.blocks + (more - k) = omega (arith, rest.blocks, w.2, part) in
     let same : SameBlocks l h = record {
-      page = tail.same.page ∙ sym w.1.page;
-      block = tail.same.block ∙ sym w.1.block;
-      phys = tail.same.phys ∙ sym w.1.phys;
-      meta = tail.same.meta ∙ sym w.1.meta;
-      magic = tail.same.magic ∙ sym w.1.magic;
+      page = rest.same.page ∙ sym w.1.page;
+      block = rest.same.block ∙ sym w.1.block;
+      phys = rest.same.phys ∙ sym w.1.phys;
+      meta = rest.same.meta ∙ sym w.1.meta;
+      magic = rest.same.magic ∙ sym w.1.magic;
     } in
     let shift : (b : ℕ) → is_marked words (first - step * more) step h (more - k + b) ≡ is_marked words (first - step * k) step l b =
     λ b. ap (λ (x : ℕ). is_marked words x step h (more - k + b)) (sym from) ∙ same_marked words (first - step * k) step l h (more - k) b same blocks inside' in
@@ -65,27 +86,25 @@ part_tail words first step g more k tail some part marked =
       same = w.1;
       blocks = w.2;
       marked = sym (shift 0) ∙ ap (λ (x : ℕ). is_marked words (first - step * more) step h x) (let e : more - k + 0 ≡ more - k = omega arith in e) ∙ marked;
-      gap = λ b c low low' lacks lacks'.
-          let one : more - k + b ≡ more - k + c = tail.gap (more - k + b) (more - k + c) (omega (arith, blocks, low)) (omega (arith, blocks, low')) (shift b ∙ lacks) (shift c ∙ lacks') in
-          omega (arith, one);
+      gaps = subst (λ (x : ℕ). HasNoWideGap (is_marked words (first - step * k) step l) x l.blocks) (ap widest_gap (rest.same.magic ∙ sym w.1.magic))
+          (shift_gaps (is_marked words (first - step * more) step h) (is_marked words (first - step * k) step l) (widest_gap h.magic) l.blocks h.blocks (more - k) shift blocks rest.gaps);
     }
 
 -- a longer volume of the same numbers is the same one
-same_longer : (words : List ℕ) (first step : ℕ) (g l : Geometry) (more : ℕ) → SameBlocks g l → l.blocks ≡ g.blocks + more → (tail : IsTailBy words first step g more) → tail.longer ≡ l
-same_longer words first step g l more same blocks tail =
-    same_numbers tail.longer l (tail.same.page ∙ sym same.page) (tail.same.block ∙ sym same.block) (tail.blocks ∙ sym blocks) (tail.same.phys ∙ sym same.phys) (tail.same.meta ∙ sym same.meta) (tail.same.magic ∙ sym same.magic)
+same_longer : (words : List ℕ) (first step : ℕ) (g l : Geometry) (more : ℕ) → SameBlocks g l → l.blocks ≡ g.blocks + more → (rest : IsRestBy words first step g more) → rest.longer ≡ l
+same_longer words first step g l more same blocks rest =
+    same_numbers rest.longer l (rest.same.page ∙ sym same.page) (rest.same.block ∙ sym same.block) (rest.blocks ∙ sym blocks) (rest.same.phys ∙ sym same.phys) (rest.same.meta ∙ sym same.meta) (rest.same.magic ∙ sym same.magic)
 
--- so there is no tail where that one's first block lacks its magic, or two of its blocks do
-pub not_marked : (words : List ℕ) (first step : ℕ) (g l : Geometry) (more : ℕ) → SameBlocks g l → l.blocks ≡ g.blocks + more → is_marked words (first - step * more) step l 0 ≡ false → IsTailBy words first step g more → ⊥
-not_marked words first step g l more same blocks lacks tail =
-    let has : is_marked words (first - step * more) step l 0 ≡ true = subst (λ (x : Geometry). is_marked words (first - step * more) step x 0 ≡ true) (same_longer words first step g l more same blocks tail) tail.marked in
+-- so it is no rest where that one's first block lacks its magic, or two of its blocks do
+pub not_marked : (words : List ℕ) (first step : ℕ) (g l : Geometry) (more : ℕ) → SameBlocks g l → l.blocks ≡ g.blocks + more → is_marked words (first - step * more) step l 0 ≡ false → IsRestBy words first step g more → ⊥
+not_marked words first step g l more same blocks lacks rest =
+    let has : is_marked words (first - step * more) step l 0 ≡ true = subst (λ (x : Geometry). is_marked words (first - step * more) step x 0 ≡ true) (same_longer words first step g l more same blocks rest) rest.marked in
     both_ways _ lacks has
 
-pub not_row : (words : List ℕ) (first step : ℕ) (g l : Geometry) (more : ℕ) → SameBlocks g l → l.blocks ≡ g.blocks + more → TwoFail (is_marked words (first - step * more) step l) l.blocks → IsTailBy words first step g more → ⊥
-not_row words first step g l more same blocks two tail =
-    let gap : AtMostOne (is_marked words (first - step * more) step l) l.blocks = subst (λ (x : Geometry). AtMostOne (is_marked words (first - step * more) step x) x.blocks) (same_longer words first step g l more same blocks tail) tail.gap in
-    let one : two.0 ≡ two.1 = gap two.0 two.1 (omega (arith, two.2, two.3)) two.3 two.4 two.5 in
-    absurd (omega (arith, one, two.2))
+pub not_narrow : (words : List ℕ) (first step : ℕ) (g l : Geometry) (more : ℕ) → SameBlocks g l → l.blocks ≡ g.blocks + more →
+    (HasNoWideGap (is_marked words (first - step * more) step l) (widest_gap l.magic) l.blocks → ⊥) → IsRestBy words first step g more → ⊥
+not_narrow words first step g l more same blocks wide rest =
+    wide (subst (λ (x : Geometry). HasNoWideGap (is_marked words (first - step * more) step x) (widest_gap x.magic) x.blocks) (same_longer words first step g l more same blocks rest) rest.gaps)
 
 -- its last block's word is one of the words
 pub last_inside : (first step blocks more longer count : ℕ) → longer ≡ blocks + more → 3 ≤ blocks → step * more ≤ first → 2 * (first + step * (blocks - 1)) + 2 ≤ count → 2 * (first - step * more + step * (longer - 1)) + 2 ≤ count
@@ -94,18 +113,26 @@ last_inside first step blocks more longer count is three inside fits =
     let parts : step * (longer - 1) ≡ step * (blocks - 1) + step * more = ap (λ (x : ℕ). step * x) rest ∙ parted step (blocks - 1) more in
     omega (arith, parts, inside, fits)
 
--- The first block or the second before the row has its magic.
-pub near_tail : (words : List ℕ) (first step : ℕ) (g : Geometry) (more : ℕ) → IsTailBy words first step g more → 0 < more → IsTailBy words first step g 1 ⊎ IsTailBy words first step g 2
-near_tail words first step g more tail some =
-    let h = tail.longer in
-    let from : ℕ = first - step * more in
+-- One of the blocks before the row, no farther from it than a gap is wide, has its magic.
+pub near_rest : (words : List ℕ) (first step : ℕ) (g : Geometry) (more : ℕ) → IsRestBy words first step g more → 0 < more → IsNearRest words first step g
+near_rest words first step g more rest some =
+    let h = rest.longer in
+    let good : ℕ → Bool = is_marked words (first - step * more) step h in
+    let w : ℕ = widest_gap g.magic in
+    let wide : widest_gap h.magic ≡ w = ap widest_gap rest.same.magic in
+    let least : 3 ≤ g.blocks = g.valid.some_blocks in
     ⊎_elim
-    (λ (here : is_marked words from step h (more - 1) ≡ true). inl (part_tail words first step g more 1 tail (omega arith) (omega arith) here))
-    (λ (lacks : is_marked words from step h (more - 1) ≡ false).
-    let not_one : more ≡ 1 → ⊥ = λ e. let first_one : is_marked words from step h 0 ≡ true = tail.marked in let zero : more - 1 ≡ 0 = omega (arith, e) in let bad : is_marked words from step h 0 ≡ false = subst (λ (x : ℕ). is_marked words from step h x ≡ false) zero lacks in absurd (cc) in
-    let two : 2 ≤ more = omega (arith, not_one, some) in
-    let there : is_marked words from step h (more - 2) ≡ true = true_from_ne_false _ (λ lacks'.
-    let same : more - 1 ≡ more - 2 = tail.gap (more - 1) (more - 2) (omega (arith, tail.blocks)) (omega (arith, tail.blocks)) lacks lacks' in
-    absurd (omega (arith, same, two))) in
-    inr (part_tail words first step g more 2 tail (omega arith) two there))
-    (cases_Bool (is_marked words from step h (more - 1)))
+    (λ (near : more < w + 2). (more, some, near, rest))
+    (λ (far : w + 2 ≤ more). ⊎_elim
+    (λ (found : (c : ℕ) × (more - (w + 1) ≤ c) × (c < more - (w + 1) + (w + 1)) × (good c ≡ true)).
+    let c : ℕ = found.0 in
+    let before : more - (more - c) ≡ c = omega (arith, found.1, found.2, far) in (
+      more - c,
+      omega (arith, found.1, found.2, far),
+      omega (arith, found.1, found.2, far),
+      part_rest words first step g more (more - c) rest (omega (arith, found.1, found.2, far)) (omega arith) (ap good before ∙ found.3),
+    ))
+    (λ (none : (c : ℕ) → more - (w + 1) ≤ c → c < more - (w + 1) + (w + 1) → good c ≡ false).
+    absurd (rest.gaps (more - (w + 1)) (omega (arith, wide, far, rest.blocks, least)) (λ c from to. none c from (omega (arith, to, wide)))))
+    (find_mark good (more - (w + 1)) (w + 1)))
+    (cases_lt more (w + 2))

@@ -1,7 +1,7 @@
 -- Blocks looked at one after the other.
 use Rattle.std.proofs.Common.{◌≡◌, ℕ, ◌+◌, ◌-◌, ◌<◌, ◌≤◌, Bool, true, false, Some, None, if◌then◌else◌, sym, ap, ◌∙◌, arith, ⊎_elim}
 use Rattle.std.proofs.lemmas.Bool.{cases_lt, both_ways}
-use Rattle.volume_detect.specs.Rows.{AtMostOne, TwoFail, LongestRow, gap_step, GapSeen}
+use Rattle.volume_detect.specs.Rows.{AtMostOne, TwoFail, LongestOfOne, gap_step, GapSeen}
 
 module _ (good : ℕ → Bool) where
   -- a number below the next one is below, or the last
@@ -57,7 +57,7 @@ module _ (good : ℕ → Bool) where
   fewer_gap n m le gap b c low low' fails fails' = gap b c (omega (arith, low, le)) (omega (arith, low', le)) fails fails'
 
   -- all blocks were looked at
-  pub longest_all : (n longest : ℕ) (lacks : Bool) → Longest n longest lacks → LongestRow good n longest
+  pub longest_all : (n longest : ℕ) (lacks : Bool) → Longest n longest lacks → LongestOfOne good n longest
   longest_all n longest lacks was = record {
     few = was.few;
     last = was.last;
@@ -66,7 +66,7 @@ module _ (good : ℕ → Bool) where
   }
 
   -- a second gap ends it
-  pub longest_end : (n most longest : ℕ) (lacks has : Bool) → gap_step lacks has ≡ None → good n ≡ has → n < most → Longest n longest lacks → LongestRow good most longest
+  pub longest_end : (n most longest : ℕ) (lacks has : Bool) → gap_step lacks has ≡ None → good n ≡ has → n < most → Longest n longest lacks → LongestOfOne good most longest
   longest_end n most longest lacks has is here less was = record {
     few = omega (arith, was.few, less);
     last = was.last;

@@ -1,18 +1,19 @@
 -- What the words of a row tell.
-use Rattle.std.proofs.Common.{◌≡◌, ℕ, ◌+◌, ◌-◌, ◌*◌, ◌/◌, ◌<◌, ◌≤◌, ◌⊎◌, ◌==◌, min, Bool, true, false, List, Option, Some, None, IfSome, bit_xor, inl, inr, ⊎_elim, refl, sym, ap, ◌∙◌, subst, arith}
+use Rattle.std.proofs.Common.{◌≡◌, ℕ, ◌+◌, ◌-◌, ◌*◌, ◌/◌, ◌<◌, ◌≤◌, ◌==◌, min, Bool, true, false, List, Option, Some, None, IfSome, bit_xor, ⊎_elim, refl, sym, ap, ◌∙◌, subst, arith}
 use Rattle.std.specs.Int.Bits.{xor_zero_r}
 use Rattle.std.proofs.Math.Nat.{le-div_iff_mul-le}
-use Rattle.std.proofs.lemmas.Bool.{cases_Bool, cases_lt, eqb-true, true_from_ne_false}
+use Rattle.std.proofs.lemmas.Bool.{cases_Bool, cases_lt, eqb-true, eq-eqb, true_from_ne_false, both_ways}
 use Rattle.geometry.specs.declared.geometry.Geometry.{Geometry}
 use Rattle.geometry.specs.declared.magic.MagicKind.{MagicKind}
 use Rattle.geometry.specs.declared.magic.MagicKind.TheVariants.{Plain, Length}
 use Rattle.geometry.specs.Rules.{pages_in}
 use Rattle.geometry.specs.Numbers.{IsOf, right_magic, length_mark}
-use Rattle.volume_detect.specs.Rows.{is_marked, is_equal, word_of, AtMostOne, TwoFail, LongestRow}
+use Rattle.volume_detect.specs.Marks.{failing, most_failing, IsMarkedRow}
+use Rattle.volume_detect.specs.Rows.{is_marked, is_equal, word_of, LongestRow}
 use Rattle.volume_detect.specs.Told.{IsIn, IsRowOf, EndsMarked, TellsLength, TellsPlain, TellsBy, Tells}
 use Rattle.volume_detect.specs.Volumes.{NoVolume}
-use Rattle.volume_detect.proofs.Gaps.{gap_by}
-use Rattle.volume_detect.proofs.Magics.{told_back, same_distance}
+use Rattle.volume_detect.proofs.Gaps.{row_by, one_fails}
+use Rattle.volume_detect.proofs.Magics.{told_back, told_again}
 use Rattle.volume_detect.proofs.Refused.{with_blocks}
 
 -- the right magic of each kind
@@ -47,7 +48,8 @@ module _ (words : List ℕ) (first step page block room : ℕ) where
   no_longer n h longest is ends = ⊎_elim
       (λ (more : n < h.blocks). absurd (longest.longest h.blocks more (omega (arith, is.fits, most_pages h is.page_is is.block_is))
       (sym (plain_marked h (h.blocks - 1) is.page_is is.magic_is) ∙ ends.last)
-      (gap_by (is_marked words first step h) (is_equal words first step (bit_xor 0x0529 page)) h.blocks (λ b low. plain_marked h b is.page_is is.magic_is) ends.row)))
+      (row_by (is_marked words first step h) (is_equal words first step (bit_xor 0x0529 page)) Plain h.blocks (omega (arith, more)) (λ b low. plain_marked h b is.page_is is.magic_is)
+      (subst (λ (m : MagicKind). IsMarkedRow (is_marked words first step h) m h.blocks) is.magic_is ends.row))))
       (λ (le : h.blocks ≤ n). le)
       (cases_lt n h.blocks)
 
@@ -59,7 +61,8 @@ module _ (words : List ℕ) (first step page block room : ℕ) where
         is.meta_is,
         record {
           last = plain_marked g (g.blocks - 1) is.page_is is.magic_is ∙ ap (λ (x : ℕ). is_equal words first step (bit_xor 0x0529 page) (x - 1)) is.blocks_is ∙ longest.last some;
-          row = subst (λ (x : ℕ). AtMostOne (is_marked words first step g) x) (sym is.blocks_is) (gap_by (is_equal words first step (bit_xor 0x0529 page)) (is_marked words first step g) n (λ b low. sym (plain_marked g b is.page_is is.magic_is)) longest.gap);
+          row = subst (λ (m : MagicKind). IsMarkedRow (is_marked words first step g) m g.blocks) (sym is.magic_is) (subst (λ (x : ℕ). IsMarkedRow (is_marked words first step g) Plain x) (sym is.blocks_is)
+              (row_by (is_equal words first step (bit_xor 0x0529 page)) (is_marked words first step g) Plain n some (λ b low. sym (plain_marked g b is.page_is is.magic_is)) longest.row));
         },
         λ h is_in ends. let le : h.blocks ≤ n = no_longer n h longest is_in ends in omega (arith, le, is.blocks_is),
       )
@@ -78,7 +81,15 @@ module _ (words : List ℕ) (first step page block room : ℕ) where
       let right : right_magic h b ≡ right_magic g b = length_right h page b is'.page_is is'.magic_is ∙ ap (λ (n : ℕ). bit_xor (bit_xor 0x0529 page) (n - b)) blocks ∙ sym (length_right g page b is.page_is is.magic_is) in
       ap (λ (x : ℕ). word_of words (first + step * b) == x) right
 
-  -- numbers that no volume has, and two blocks without their magic
+  -- so one is a row where the other is
+  row_as : (g h : Geometry) → IsIn page block room Length g → IsIn page block room Length h → h.blocks ≡ g.blocks → IsRowOf words first step h → IsRowOf words first step g
+  row_as g h is is' blocks row =
+      let three : 3 ≤ h.blocks = h.valid.some_blocks in
+      let there : IsMarkedRow (is_marked words first step g) h.magic h.blocks =
+      row_by (is_marked words first step h) (is_marked words first step g) h.magic h.blocks (omega (arith, three)) (λ b low. same_marks g h b is is' blocks) row in
+      subst (λ (m : MagicKind). IsMarkedRow (is_marked words first step g) m g.blocks) (is'.magic_is ∙ sym is.magic_is) (subst (λ (n : ℕ). IsMarkedRow (is_marked words first step g) h.magic n) blocks there)
+
+  -- numbers that no volume has
   pub by_none : (blocks : ℕ) → NoVolume page block blocks → TellsBy words first step page block room blocks None
   by_none blocks none h is same row = none h is.page_is is.block_is same is.phys_is
 
@@ -88,79 +99,70 @@ module _ (words : List ℕ) (first step page block room : ℕ) where
   of_is_in : (blocks : ℕ) (g : Geometry) → IsOf g page block blocks block 0 Length → blocks ≤ room → IsIn page block room Length g
   of_is_in blocks g is fits = record { page_is = is.page_is; block_is = is.block_is; phys_is = is.phys_is; magic_is = is.magic_is; fits = omega (arith, is.blocks_is, fits) }
 
-  pub by_row : (blocks : ℕ) (g : Geometry) → IsOf g page block blocks block 0 Length → blocks ≤ room → AtMostOne (is_marked words first step g) g.blocks → TellsBy words first step page block room blocks (Some g)
+  pub by_row : (blocks : ℕ) (g : Geometry) → IsOf g page block blocks block 0 Length → blocks ≤ room → IsRowOf words first step g → TellsBy words first step page block room blocks (Some g)
   by_row blocks g is fits row = (of_is_in blocks g is fits, is.meta_is, is.blocks_is, row)
 
-  pub by_gaps : (blocks : ℕ) (g : Geometry) → IsOf g page block blocks block 0 Length → blocks ≤ room → TwoFail (is_marked words first step g) g.blocks → TellsBy words first step page block room blocks None
-  by_gaps blocks g is fits two h is_in same row =
-      let blocks' : h.blocks ≡ g.blocks = same ∙ sym is.blocks_is in
-      let marks : (b : ℕ) → is_marked words first step h b ≡ is_marked words first step g b = λ b. same_marks g h b (of_is_in blocks g is fits) is_in blocks' in
-      let one : two.0 ≡ two.1 = row two.0 two.1 (omega (arith, two.2, two.3, blocks')) (omega (arith, two.3, blocks')) (marks two.0 ∙ two.4) (marks two.1 ∙ two.5) in
-      omega (arith, one, two.2)
+  pub by_no_row : (blocks : ℕ) (g : Geometry) → IsOf g page block blocks block 0 Length → blocks ≤ room → (IsRowOf words first step g → ⊥) → TellsBy words first step page block room blocks None
+  by_no_row blocks g is fits none h is_in same row = none (row_as g h (of_is_in blocks g is fits) is_in (same ∙ sym is.blocks_is) row)
 
-  -- of the first three blocks one has its magic by both tests
-  in_both : (p q : ℕ → Bool) (n m : ℕ) → 3 ≤ n → 3 ≤ m → AtMostOne p n → AtMostOne q m → (b : ℕ) × (b < 3) × (p b ≡ true) × (q b ≡ true)
-  in_both p q n m three three' gap gap' =
-      let has : (b : ℕ) → b < 3 → (c : ℕ) → c < 3 → (b ≡ c → ⊥) → p b ≡ false → p c ≡ true = λ b low c low' other fails. true_from_ne_false _ (λ fails'. other (gap b c (omega (arith, low, three)) (omega (arith, low', three)) fails fails')) in
-      let has' : (b : ℕ) → b < 3 → (c : ℕ) → c < 3 → (b ≡ c → ⊥) → q b ≡ false → q c ≡ true = λ b low c low' other fails. true_from_ne_false _ (λ fails'. other (gap' b c (omega (arith, low, three')) (omega (arith, low', three')) fails fails')) in
-      let zero_one = apart 0 1 (omega arith) in
-      let zero_two = apart 0 2 (omega arith) in
-      let one_two = apart 1 2 (omega arith) in
-      ⊎_elim
-      (λ (yes : p 0 ≡ true). ⊎_elim
-      (λ (yes' : q 0 ≡ true). (0, omega arith, yes, yes'))
-      (λ (no' : q 0 ≡ false). ⊎_elim
-      (λ (next : p 1 ≡ true). (1, omega arith, next, has' 0 (omega arith) 1 (omega arith) zero_one no'))
-      (λ (next : p 1 ≡ false). (2, omega arith, has 1 (omega arith) 2 (omega arith) one_two next, has' 0 (omega arith) 2 (omega arith) zero_two no'))
-      (cases_Bool (p 1)))
-      (cases_Bool (q 0)))
-      (λ (no : p 0 ≡ false). ⊎_elim
-      (λ (next : q 1 ≡ true). (1, omega arith, has 0 (omega arith) 1 (omega arith) zero_one no, next))
-      (λ (next : q 1 ≡ false). (2, omega arith, has 0 (omega arith) 2 (omega arith) zero_two no, has' 1 (omega arith) 2 (omega arith) one_two next))
-      (cases_Bool (q 1)))
-      (cases_Bool (p 0))
+  -- what a block with its magic tells
+  tells : (h : Geometry) (b : ℕ) → IsIn page block room Length h → is_marked words first step h b ≡ true → bit_xor (word_of words (first + step * b)) (bit_xor 0x0529 page) ≡ h.blocks - b
+  tells h b is has = ap (λ (x : ℕ). bit_xor x (bit_xor 0x0529 page)) (eqb-true _ _ has ∙ length_right h page b is.page_is is.magic_is) ∙ told_back (bit_xor 0x0529 page) (h.blocks - b)
 
-  -- so there is one number of blocks
-  pub one_length : (g h : Geometry) → IsIn page block room Length g → IsIn page block room Length h → IsRowOf words first step g → IsRowOf words first step h → h.blocks ≡ g.blocks
-  one_length g h is is' row row' =
-      let three : 3 ≤ g.blocks = g.valid.some_blocks in
-      let three' : 3 ≤ h.blocks = h.valid.some_blocks in
-      let w = in_both (is_marked words first step g) (is_marked words first step h) g.blocks h.blocks three three' row row' in
-      let b : ℕ = w.0 in
-      let here : word_of words (first + step * b) ≡ right_magic g b = eqb-true _ _ w.2 in
-      let there : word_of words (first + step * b) ≡ right_magic h b = eqb-true _ _ w.3 in
-      let same : bit_xor (bit_xor 0x0529 page) (h.blocks - b) ≡ bit_xor (bit_xor 0x0529 page) (g.blocks - b) = sym (length_right h page b is'.page_is is'.magic_is) ∙ sym there ∙ here ∙ length_right g page b is.page_is is.magic_is in
-      let distance : h.blocks - b ≡ g.blocks - b = same_distance (bit_xor 0x0529 page) (h.blocks - b) (g.blocks - b) same in
-      omega (arith, distance, w.1, three, three')
-
-  -- one of the first two blocks tells it
-  told_by : (h : Geometry) → IsIn page block room Length h → IsRowOf words first step h → (bit_xor (word_of words first) (bit_xor 0x0529 page) ≡ h.blocks) ⊎ (bit_xor (word_of words (first + step)) (bit_xor 0x0529 page) + 1 ≡ h.blocks)
-  told_by h is row =
-      let three : 3 ≤ h.blocks = h.valid.some_blocks in
-      let tells : (b : ℕ) → is_marked words first step h b ≡ true → bit_xor (word_of words (first + step * b)) (bit_xor 0x0529 page) ≡ h.blocks - b =
-      λ b has. ap (λ (x : ℕ). bit_xor x (bit_xor 0x0529 page)) (eqb-true _ _ has ∙ length_right h page b is.page_is is.magic_is) ∙ told_back (bit_xor 0x0529 page) (h.blocks - b) in
-      ⊎_elim
-      (λ (yes : is_marked words first step h 0 ≡ true).
+  -- the first block tells how many there are
+  first_says : (h : Geometry) → IsIn page block room Length h → is_marked words first step h 0 ≡ true → bit_xor (word_of words first) (bit_xor 0x0529 page) ≡ h.blocks
+  first_says h is has =
       let at : first + step * 0 ≡ first = omega arith in
-      inl (ap (λ (x : ℕ). bit_xor (word_of words x) (bit_xor 0x0529 page)) (sym at) ∙ tells 0 yes ∙ (let e : h.blocks - 0 ≡ h.blocks = omega arith in e)))
-      (λ (no : is_marked words first step h 0 ≡ false).
-      let next : is_marked words first step h 1 ≡ true = true_from_ne_false _ (λ no'. let same : 0 ≡ 1 = row 0 1 (omega (arith, three)) (omega (arith, three)) no no' in absurd (omega (arith, same))) in
+      ap (λ (x : ℕ). bit_xor (word_of words x) (bit_xor 0x0529 page)) (sym at) ∙ tells h 0 is has ∙ (let e : h.blocks - 0 ≡ h.blocks = omega arith in e)
+
+  -- where it lacks its magic the second does
+  second_says : (h : Geometry) → IsIn page block room Length h → IsRowOf words first step h → is_marked words first step h 0 ≡ false → bit_xor (word_of words (first + step)) (bit_xor 0x0529 page) + 1 ≡ h.blocks
+  second_says h is row lacks =
+      let three : 3 ≤ h.blocks = h.valid.some_blocks in
+      let few : failing (is_marked words first step h) h.blocks ≤ 1 = subst (λ (has : Bool). failing (is_marked words first step h) h.blocks ≤ most_failing h.magic has h.blocks) lacks row.few in
+      let next : is_marked words first step h 1 ≡ true = true_from_ne_false _ (λ lacks'. let same : 0 ≡ 1 = one_fails (is_marked words first step h) h.blocks few 0 1 (omega (arith, three)) (omega (arith, three)) lacks lacks' in absurd (omega (arith, same))) in
       let at : first + step * 1 ≡ first + step = omega arith in
-      let told : bit_xor (word_of words (first + step)) (bit_xor 0x0529 page) ≡ h.blocks - 1 = ap (λ (x : ℕ). bit_xor (word_of words x) (bit_xor 0x0529 page)) (sym at) ∙ tells 1 next in
-      inr (omega (arith, told, three)))
-      (cases_Bool (is_marked words first step h 0))
+      let told : bit_xor (word_of words (first + step)) (bit_xor 0x0529 page) ≡ h.blocks - 1 = ap (λ (x : ℕ). bit_xor (word_of words x) (bit_xor 0x0529 page)) (sym at) ∙ tells h 1 is next in
+      omega (arith, told, three)
+
+  -- where there are as many as the first tells it has its magic
+  first_marked : (n : ℕ) (g : Geometry) → n ≡ bit_xor (word_of words first) (bit_xor 0x0529 page) → IsIn page block room Length g → g.blocks ≡ n → is_marked words first step g 0 ≡ true
+  first_marked n g is is_in blocks =
+      let at : first + step * 0 ≡ first = omega arith in
+      let many : g.blocks - 0 ≡ n = omega (arith, blocks) in
+      let right : right_magic g 0 ≡ word_of words first = length_right g page 0 is_in.page_is is_in.magic_is ∙ ap (λ (x : ℕ). bit_xor (bit_xor 0x0529 page) x) (many ∙ is) ∙ told_again (bit_xor 0x0529 page) (word_of words first) in
+      eq-eqb _ _ (ap (word_of words) at ∙ sym right)
 
   -- the volume of the number that the first block tells
-  pub first_tells : (blocks : ℕ) (g : Geometry) → TellsBy words first step page block room blocks (Some g) → TellsLength words first step page block room (Some g)
-  first_tells blocks g by = (by.0, by.1, by.3, λ h is row. one_length g h by.0 is by.3 row)
+  pub first_tells : (n : ℕ) (g : Geometry) → n ≡ bit_xor (word_of words first) (bit_xor 0x0529 page) → TellsBy words first step page block room n (Some g) → TellsLength words first step page block room (Some g)
+  first_tells n g is by =
+      let here : is_marked words first step g 0 ≡ true = first_marked n g is by.0 by.2 in (
+        by.0,
+        by.1,
+        by.3,
+        λ lacks h is_in bare row marked. both_ways _ lacks here,
+        λ h is_in row told. ⊎_elim
+            (λ (yes : is_marked words first step h 0 ≡ true). sym (first_says h is_in yes) ∙ sym is ∙ sym by.2)
+            (λ (no : is_marked words first step h 0 ≡ false). absurd (told no g by.0 by.1 by.3 here))
+            (cases_Bool (is_marked words first step h 0)),
+      )
 
   -- or of that which the second tells
   pub second_tells : (n m : ℕ) (o : Option Geometry) → n ≡ bit_xor (word_of words first) (bit_xor 0x0529 page) → m ≡ bit_xor (word_of words (first + step)) (bit_xor 0x0529 page) + 1 → TellsBy words first step page block room n None → TellsBy words first step page block room m o → TellsLength words first step page block room o
-  second_tells n m (Some g) is is' none by = (by.0, by.1, by.3, λ h is_in row. one_length g h by.0 is_in by.3 row)
+  second_tells n m (Some g) is is' none by = (
+    by.0,
+    by.1,
+    by.3,
+    λ lacks h is_in bare row marked. none h is_in (sym (first_says h is_in marked) ∙ sym is) row,
+    λ h is_in row told. ⊎_elim
+        (λ (yes : is_marked words first step h 0 ≡ true). absurd (none h is_in (sym (first_says h is_in yes) ∙ sym is) row))
+        (λ (no : is_marked words first step h 0 ≡ false). sym (second_says h is_in row no) ∙ sym is' ∙ sym by.2)
+        (cases_Bool (is_marked words first step h 0)),
+  )
   second_tells n m None is is' none none' = λ h is_in row. ⊎_elim
-      (λ (e : bit_xor (word_of words first) (bit_xor 0x0529 page) ≡ h.blocks). none h is_in (sym (is ∙ e)) row)
-      (λ (e : bit_xor (word_of words (first + step)) (bit_xor 0x0529 page) + 1 ≡ h.blocks). none' h is_in (sym (is' ∙ e)) row)
-      (told_by h is_in row)
+      (λ (yes : is_marked words first step h 0 ≡ true). none h is_in (sym (first_says h is_in yes) ∙ sym is) row)
+      (λ (no : is_marked words first step h 0 ≡ false). none' h is_in (sym (second_says h is_in row no) ∙ sym is') row)
+      (cases_Bool (is_marked words first step h 0))
 
   -- there is no room for three blocks
   pub no_room : room < 3 → TellsLength words first step page block room None

@@ -1,3 +1,4 @@
+pub mod Marks
 pub mod Candidates
 pub mod Rows
 pub mod Places

@@ -7,7 +7,7 @@ ghost use Rattle.volume_detect.specs.Told.{Tells};
 ghost use Rattle.volume_detect.specs.Words.{HasWords};
 
 use crate::spot::{Spot, spot_of};
-use crate::tails::is_tail;
+use crate::tails::is_rest;
 use crate::told::{length_volume, plain_volume};
 use geometry::{Geometry, MagicKind};
 
@@ -44,7 +44,7 @@ fn volume_at(words: &[u8], place: u32) -> Option<Geometry>
     match told_at(words, s) {
         None => None,
         Some(g) => {
-            if is_tail(words, s.first, s.step, &g) {
+            if is_rest(words, s.first, s.step, &g) {
                 None
             } else {
                 Some(g)

@@ -72,8 +72,8 @@ fn told_blocks(magic: u16, page: u32) -> u32
     u32::from(magic ^ plain_magic(page))
 }
 
-// The volume with the magic of its length: the first block tells how many blocks there are, or, if that is the one that lacks its
-// magic, the second. There is room for so many blocks.
+// The volume with the magic of its length: the first block tells how many blocks there are, or, if that is the only one that lacks
+// its magic, the second. There is room for so many blocks.
 pub(crate) fn length_volume(
     words: &[u8],
     first: usize,

@@ -1,17 +1,22 @@
 -- What a file may hold, with what each volume reads.
 use Rattle.std.specs.Prelude.{ℕ, ◌≡◌, ◌<◌, List, length, drop, slice_index_or}
 use Rattle.geometry.specs.declared.geometry.Geometry.{Geometry}
+use Rattle.doubled_ids.specs.Doubled.{doubled_of}
+use Rattle.image_model.specs.Kinds.{spoiled_blocks}
 use Rattle.meta_guess.specs.Guesses.{IsMeta}
 use Rattle.volume_detect.specs.Places.{byte_of, IsFoundAt}
 use Rattle.volume_rank.specs.declared.found.Found.{Found}
 use Rattle.volume_rank.specs.Ranges.{IsRange}
 
--- A candidate of the file at its place, with the number of meta bytes that reads most of the bytes from there on, and what it reads.
+-- A candidate of the file at its place, with the number of meta bytes that reads most of the bytes from there on, what it reads, how many of its
+-- blocks lack their magic, and how many ids are doubled there.
 pub record IsFound (file : List ℕ) (f : Found) : Type 0 where
   pub candidate : Geometry
   pub found : IsFoundAt file f.place candidate
   pub volume : IsMeta candidate f.volume.meta f.volume
   pub range : IsRange candidate (drop (byte_of f.place) file) (record { first = f.volume.meta; last = f.last_meta; counts = f.counts })
+  pub spoiled : f.spoiled ≡ spoiled_blocks f.volume (drop (byte_of f.place) file)
+  pub doubled : f.doubled ≡ length (doubled_of f.volume (drop (byte_of f.place) file))
 
 -- The first `n` of a list are the candidates at the places before `end`, in order of places. (Where nothing stands in the list it reads as `d`.)
 pub record IsCollected (file : List ℕ) (list : List Found) (n end : ℕ) : Type 0 where

@@ -1,6 +1,8 @@
 //! All candidates of a file.
 ghost use Rattle.std.specs.Prelude.{◌≡◌, ℕ, ◌+◌, ◌*◌, ◌<◌, ◌≤◌, ◌^◌, length, drop, OnErr, IfOk};
 ghost use Rattle.geometry.specs.declared.geometry.Geometry.{Geometry as AnyGeometry};
+ghost use Rattle.doubled_ids.specs.Doubled.{doubled_of};
+ghost use Rattle.image_model.specs.Kinds.{spoiled_blocks as spoiled_of};
 ghost use Rattle.meta_guess.specs.Guesses.{IsMeta};
 ghost use Rattle.volume_detect.specs.Places.{IsFoundAt};
 ghost use Rattle.volume_detect.specs.Words.{HasWords};
@@ -9,9 +11,11 @@ ghost use Rattle.volume_rank.specs.Ranges.{IsRange};
 
 use crate::found::{Found, MetaRange};
 use crate::ranges::{METAS, top_range};
+use doubled_ids::count_doubled;
 use geometry::Geometry;
 use meta_guess::with_meta;
 use meta_tally::tally_files;
+use plain_image::spoiled_blocks;
 use thiserror::Error;
 use volume_detect::{byte_of, next_candidate};
 
@@ -34,6 +38,24 @@ fn range_at(file: &[u8], at: u32, g: &Geometry, work: &mut [u8], marks: &mut [u8
     top_range(&whole, heads)
 }
 
+// How many ids of the volume at a byte of the file are doubled.
+fn doubled_at(file: &[u8], at: u32, g: &Geometry, work: &mut [u8]) -> u32
+    requires small { length file.now < 2 ^ 32 }
+    requires inside { at + g.now.blocks * g.now.block ≤ length file.now }
+    requires work { 557056 ≤ length work.old }
+    ensures { result ≡ length (doubled_of g.now (drop at file.now)) }
+{
+    count_doubled(g, &file[at as usize..], work)
+}
+
+// How many blocks of the volume at a byte of the file lack their magic.
+fn spoiled_at(file: &[u8], at: u32, g: &Geometry) -> u32
+    requires inside { at + g.now.blocks * g.now.block ≤ length file.now }
+    ensures { result ≡ spoiled_of g.now (drop at file.now) }
+{
+    spoiled_blocks(g, &file[at as usize..])
+}
+
 // A candidate, with what it reads.
 fn found_at(file: &[u8], place: u32, g: &Geometry, work: &mut [u8], marks: &mut [u8]) -> Found
     requires small { length file.now < 2 ^ 32 }
@@ -44,12 +66,16 @@ fn found_at(file: &[u8], place: u32, g: &Geometry, work: &mut [u8], marks: &mut 
     ensures found { IsFound file.now result }
     ensures place { result.place ≡ place }
 {
-    let range = range_at(file, byte_of(place), g, work, marks);
+    let at = byte_of(place);
+    let range = range_at(file, at, g, work, marks);
+    let volume = with_meta(g, range.first);
     Found {
         place,
-        volume: with_meta(g, range.first),
+        volume,
         last_meta: range.last,
         counts: range.counts,
+        spoiled: spoiled_at(file, at, &volume),
+        doubled: doubled_at(file, at, &volume, work),
     }
 }
 

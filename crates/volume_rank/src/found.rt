@@ -23,4 +23,9 @@ pub struct Found {
     pub last_meta: u32,
     /// How many files are whole by these, and how many ids are damaged.
     pub counts: Counts,
+    /// How many of its blocks lack their magic. A volume has one of these at most; where there are more some were overwritten.
+    pub spoiled: u32,
+    /// How many ids are doubled there: two live header pages of each, or more. A volume at rest has none. Two or more tell that these
+    /// may be several volumes, read as one.
+    pub doubled: u32,
 }

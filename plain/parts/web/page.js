@@ -89,7 +89,7 @@ async function take(file) {
 
 /** The numbers of a line of `detect`; of several numbers of meta bytes the first. None of another line. */
 function candidate(line) {
-  const told = line.match(/^at (\d+) page (\d+) block (\d+) blocks (\d+) meta (\d+)(?:-(\d+))? magic (\w+) files (\d+) damaged (\d+)$/);
+  const told = line.match(/^at (\d+) page (\d+) block (\d+) blocks (\d+) meta (\d+)(?:-(\d+))? magic (\w+) files (\d+) damaged \d+(?: spoiled \d+)?(?: doubled \d+)?$/);
   if (!told) return null;
   const [, at, page, block, blocks, meta, last, magic, files] = told;
   return { at, page, block, blocks, meta, last: last ?? meta, magic, files: Number(files) };

@@ -3,6 +3,7 @@
 use liverymenhir::geometry::{Geometry, MagicKind};
 use rattle_host::alloc::Global;
 use script_rows::script_bench::{Bench, Fault, Told};
+use spiffs::doubled_ids::{WORK, count_doubled};
 use spiffs::plain_image::table_of;
 use std::collections::BTreeMap;
 use std::fmt::Write;
@@ -22,11 +23,12 @@ pub(crate) struct File {
     pub(crate) bytes: Vec<u8>,
 }
 
-/// What a cut left: the number of the line whose call was under way, or of that behind the last one, and the files.
+/// What a cut left: the number of the line whose call was under way, or of that behind the last one, the files, and how many ids are doubled.
 #[derive(Clone, Debug)]
 pub(crate) struct Cut {
     pub(crate) line: usize,
     pub(crate) files: Vec<File>,
+    pub(crate) doubled: u32,
 }
 
 /// A volume and its image.
@@ -132,6 +134,11 @@ impl Trial {
         records.iter().map(file).collect()
     }
 
+    // How many ids have more than one header page.
+    fn doubled(&self, image: &[u8]) -> u32 {
+        count_doubled(&self.bench.g, image, &mut [0; WORK])
+    }
+
     /// What is left where the power is cut inside each program, erase and reply of a run, done as each of the picks says.
     pub(crate) fn cuts(&self, script: &str, picks: &[u64]) -> Vec<Cut> {
         let places = places(script);
@@ -144,7 +151,9 @@ impl Trial {
                     return cuts;
                 }
                 let line = places[ran.lines()];
-                cuts.push(Cut { line, files: self.files(&ran.image) });
+                let files = self.files(&ran.image);
+                let doubled = self.doubled(&ran.image);
+                cuts.push(Cut { line, files, doubled });
             }
         }
         panic!("the script has no end");

@@ -53,6 +53,16 @@ fn try_cuts(trial: &Trial, picks: &[u64]) -> usize {
 }
 
 #[test]
+fn a_cut_leaves_one_id_doubled_at_most() {
+    let trial = Trial::new(256, 4096, 5, 0).after(FILES);
+    let mut counts = [0; 2];
+    for cut in SCRIPTS.iter().flat_map(|script| trial.cuts(script, &[1, 2])) {
+        counts[cut.doubled as usize] += 1;
+    }
+    assert!(counts[0] > 1000 && counts[1] > 40, "{counts:?}");
+}
+
+#[test]
 fn each_table_that_a_cut_leaves_is_told() {
     assert!(try_cuts(&Trial::new(256, 4096, 5, 0).after(FILES), &[1, 2]) > 1000);
 }

@@ -3,7 +3,7 @@ use Rattle.volume_detect.proofs.Tellings.{first_tells, second_tells}
 use Rattle.volume_detect.proofs.told.length_volume.Goals as goal
 
 pub returns-in-Some : goal.returns-in-Some
-returns-in-Some c = first_tells c.args.words.now c.args.first c.args.step c.args.page c.args.block c.args.room c.told_blocks-by_first.result c.in-Some.g c.in-Some.ensures
+returns-in-Some c = first_tells c.args.words.now c.args.first c.args.step c.args.page c.args.block c.args.room c.told_blocks-by_first.result c.in-Some.g (c.told_blocks-by_first.ensures.value ∙ ap (λ (x : ℕ). bit_xor x (bit_xor 0x0529 c.args.page)) c.word.ensures) c.in-Some.ensures
 
 pub returns-in-None : goal.returns-in-None
 returns-in-None c =

@@ -1,7 +1,7 @@
 -- The longest row of the blocks below.
 use Rattle.volume_detect.specs.Rows.{is_equal}
 use Rattle.volume_detect.proofs.Steps.{Longest}
-use Rattle.volume_detect.proofs.rows.longest_row.Given as goal
+use Rattle.volume_detect.proofs.rows.longest_of_one.Given as goal
 
 abbrev pub invariant-loop-b : goal.invariant-loop-b
 invariant-loop-b l = Longest (is_equal l.words l.first l.step l.magic) l.b l.longest l.lacks
