@@ -133,7 +133,7 @@ def man_page(text, version, day):
         else:
             out += map(in_roff, paragraph)
     out += [".SH COPYRIGHT", f"{in_roff(terms.AUTHORS)}. Licence: {in_roff(terms.LICENCE)}; see LICENSE\\-MIT and LICENSE\\-APACHE, or the package's file copyright."]
-    out += [".SH SEE ALSO", "The pages beside the program: README.md, COMMANDS.md, PROVED.md, POWER\\-CUTS.md."]
+    out += [".SH SEE ALSO", "The pages beside the program: README.md, COMMANDS.md, SCRIPTS.md, PROVED.md, POWER\\-CUTS.md."]
     return "\n".join(out) + "\n"
 
 
