@@ -19,6 +19,9 @@ TOOLS = """awk bash basename cat chmod cksum cmp comm cp cut date dd diff dirnam
 mkdir mktemp mv nl nproc od paste printf pwd readlink realpath rm rmdir sed seq sh sha256sum sleep sort stat tail tar tee test timeout touch tr true
 truncate uname uniq wc xargs xxd cargo rustc ar as cc gcc ld""".split()
 
+# What is left of the environment.
+KEPT = ("HOME", "LANG", "USER", "RUSTUP_HOME", "CARGO_HOME", "RUSTUP_AUTO_INSTALL", "RUSTUP_TOOLCHAIN")
+
 # The tool that reads and writes the flash of a board; here the flash is a file.
 ESPTOOL = """\
 #!/bin/sh
@@ -61,7 +64,7 @@ class Reader:
 
     def run(self, script, folder):
         """What commands print and how they end."""
-        env = {key: value for key, value in os.environ.items() if key in ("HOME", "LANG", "USER", "RUSTUP_HOME", "CARGO_HOME", "RUSTUP_AUTO_INSTALL", "RUSTUP_TOOLCHAIN")}
+        env = {key: value for key, value in os.environ.items() if key in KEPT}
         env["PATH"] = f"{self.path}:{self.tools}"
         words = ["bash", "-c", script]
         done = subprocess.run(words, cwd=folder, env=env, stdin=subprocess.DEVNULL, capture_output=True, text=True, timeout=self.seconds, check=False)
