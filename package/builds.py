@@ -96,9 +96,10 @@ def crate():
 
 def c_sources(name):
     """The sources of the library for C, over the engine's crate unpacked beside them."""
-    folder = OUT / "spiffs_c"
-    files = [(f"c/{path.relative_to(folder)}", path.read_bytes(), False) for part in ("include", "src", "demo") for path in sorted((folder / part).rglob("*")) if path.is_file()]
-    manifest = (folder / "Cargo.toml").read_text(encoding="utf-8").replace('"../liverymenhir"', f'"../{name.removesuffix(".crate")}"')
+    folder, crate_folder = OUT / "spiffs_c", name.removesuffix(".crate")
+    paths = [path for part in ("include", "src", "demo") for path in sorted((folder / part).rglob("*")) if path.is_file()]
+    files = [(f"c/{path.relative_to(folder)}", path.read_bytes(), False) for path in paths]
+    manifest = (folder / "Cargo.toml").read_text(encoding="utf-8").replace('"../liverymenhir"', f'"../{crate_folder}"')
     return [*files, ("c/Cargo.toml", manifest.encode(), False), ("c/Cargo.lock", (folder / "Cargo.lock").read_bytes(), False)]
 
 

@@ -132,7 +132,8 @@ def man_page(text, version, day):
             out += [".nf", *map(in_roff, paragraph), ".fi"]
         else:
             out += map(in_roff, paragraph)
-    out += [".SH COPYRIGHT", f"{in_roff(terms.AUTHORS)}. Licence: {in_roff(terms.LICENCE)}; see LICENSE\\-MIT and LICENSE\\-APACHE, or the package's file copyright."]
+    licence = f"{terms.AUTHORS}. Licence: {terms.LICENCE}; see LICENSE-MIT and LICENSE-APACHE, or the package's file copyright."
+    out += [".SH COPYRIGHT", in_roff(licence)]
     out += [".SH SEE ALSO", "The pages beside the program: README.md, COMMANDS.md, SCRIPTS.md, PROVED.md, POWER\\-CUTS.md."]
     return "\n".join(out) + "\n"
 

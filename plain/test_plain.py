@@ -88,7 +88,8 @@ class Rules(unittest.TestCase):
         self.assertIn('    E { a, .. } => "at {a}",\n', rules.errors(text, "crate"))
 
     def test_each_variant_of_an_error_has_its_words(self):
-        variants = '    #[error("a {0:?}")]\n    A(#[from(alloc)] One),\n\n    /// Docs.\n    #[error("{n} of {0}")]\n    B { n: u32, m: u8 },\n    #[error("c")]\n    C(Two, u8),\n'
+        variants = '    #[error("a {0:?}")]\n    A(#[from(alloc)] One),\n\n    /// Docs.\n'
+        variants += '    #[error("{n} of {m}")]\n    B { n: u32, m: u8 },\n    #[error("c")]\n    C(Two, u8),\n'
         made = rules.errors(f"#[derive(Debug, Error)]\npub enum E {{\n{variants}}}\n\nfn f() {{}}\n", "crate")
         self.assertTrue(made.startswith("#[derive(Debug)]\npub enum E {\n    A(One),\n\n    /// Docs.\n    B { n: u32, m: u8 },\n    C(Two, u8),\n}\n"), made)
         self.assertIn('    E::A(_0) => "a {_0:?}",\n', made)
