@@ -1,11 +1,11 @@
-//! What stops a command that removes damaged files for good, or tells what `run` would do: where ids are damaged and other numbers read more
-//! whole files, or the chip's file is shorter than the volume.
+//! What stops a command that removes damaged files for good, or tells what `run` would do: where other numbers read more whole files, or the
+//! chip's file is shorter than the volume and a part of what stood there is missing.
 use crate::detect::{PLACES, found_in};
 use crate::look::{Better, Seen, geometry_of};
 use crate::words::foretells;
 use crate::{Refusal, is_refused};
 use chip_row::{Chip, ChipRow};
-use geometry::Geometry;
+use geometry::{Geometry, MagicKind};
 use host_edge::{FileChip, Shown, StdBoard};
 use std::alloc::{AllocError, Global};
 use std::fmt;
@@ -82,7 +82,9 @@ struct Force {
 impl fmt::Display for Force {
     fn fmt<W: fmt::Write>(&self, f: &mut fmt::Formatter<W>) -> fmt::Result {
         let lost = self.lost;
-        if self.removes {
+        if lost == 0 {
+            write!(f, "with --force give up what isn't within these blocks")
+        } else if self.removes {
             write!(f, "with --force remove {lost} damaged files for good")
         } else {
             write!(f, "with --force go on without {lost} damaged files")
@@ -171,6 +173,85 @@ fn longer_of(
     Ok(Some(longer_by(seen.whole, &given, &found)))
 }
 
+// Whether a block behind the volume has the magic that all blocks of a `plain` volume have.
+fn is_marked(whole: &mut FileChip, g: &Geometry, block_ix: u64) -> bool {
+    let lookups = u64::from(g.lookups()) * u64::from(g.page());
+    let place = block_ix
+        .saturating_mul(u64::from(g.block()))
+        .saturating_add(lookups.saturating_sub(4));
+    let mut word = [0u8; 2];
+    let Ok(at) = u32::try_from(place) else {
+        return false;
+    };
+    at < whole.size().saturating_sub(2)
+        && whole.read(at, &mut word).is_ok()
+        && u16::from_le_bytes(word) == g.magic_of(0)
+}
+
+// Whether the row of blocks goes on behind the volume, which is a `plain` one and stands in one chip: one of the next two blocks has its magic.
+fn goes_on(words: &[String], row: &ChipRow<FileChip>) -> bool {
+    let (Some(given), [chip]) = (geometry_of(words), row.chips()) else {
+        return false;
+    };
+    if given.magic != MagicKind::Plain || chip.length() <= u64::from(chip.size()) {
+        return false;
+    }
+    let Some(mut whole) = chip.whole() else {
+        return false;
+    };
+    let end = u64::from(given.blocks());
+    is_marked(&mut whole, &given, end) || is_marked(&mut whole, &given, end + 1)
+}
+
+// A word of a file's bytes; past their end it is erased.
+fn entry_at(bytes: &[u8], at: u64) -> u16 {
+    let Ok(at) = usize::try_from(at) else {
+        return 0xFFFF;
+    };
+    match (bytes.get(at), bytes.get(at.saturating_add(1))) {
+        (Some(low), Some(high)) => u16::from_le_bytes([*low, *high]),
+        _ => 0xFFFF,
+    }
+}
+
+// Whether an entry of a block is in use whose page begins past the end of the file.
+fn misses_page(bytes: &[u8], g: &Geometry, block_ix: u32) -> bool {
+    let start = u64::from(block_ix) * u64::from(g.block());
+    for i in 0..g.entries() {
+        let slot = u64::from(i);
+        let ahead = slot.saturating_add(u64::from(g.lookups()));
+        let page = start.saturating_add(ahead.saturating_mul(u64::from(g.page())));
+        let entry = entry_at(bytes, start.saturating_add(slot.saturating_mul(2)));
+        if page >= bytes.len() as u64 && entry != 0xFFFF && entry != 0 {
+            return true;
+        }
+    }
+    false
+}
+
+// Whether pages that are in use are missing in the file of the one chip, which is shorter than the volume.
+fn is_cut(
+    rt: &HostRuntime,
+    words: &[String],
+    row: &ChipRow<FileChip>,
+) -> Result<bool, Refusal> {
+    let (Some(given), [chip]) = (geometry_of(words), row.chips()) else {
+        return Ok(false);
+    };
+    if chip.length() >= u64::from(chip.size()) {
+        return Ok(false);
+    }
+    let Some(bytes) = bytes_of(rt.alloc(), chip)? else {
+        return Ok(false);
+    };
+    for block_ix in 0..given.blocks() {
+        if misses_page(&bytes, &given, block_ix) {
+            return Ok(true);
+        }
+    }
+    Ok(false)
+}
+
 // The first chip whose file is shorter than it.
 fn short_of(row: &ChipRow<FileChip>) -> Option<Short> {
     for (chip, one) in row.chips().iter().enumerate() {
@@ -183,8 +264,7 @@ fn short_of(row: &ChipRow<FileChip>) -> Option<Short> {
     None
 }
 
-/// Whether a command is stopped on that row, by what was seen of its volume; then it is said why. Nothing is looked for where it is forced, or
-/// no id is damaged.
+/// Whether a command is stopped on that row, by what was seen of its volume; then it is said why. Nothing is looked for where it is forced.
 pub fn is_stopped<W: Write + Drop>(
     rt: &HostRuntime,
     words: &[String],
@@ -196,11 +276,13 @@ pub fn is_stopped<W: Write + Drop>(
     let Some(seen) = seen else {
         return Ok(false);
     };
-    if is_forced || seen.damaged == 0 {
+    let row = board.row();
+    let is_damaged = seen.damaged > 0;
+    if is_forced || !(is_damaged || goes_on(words, row) || is_cut(rt, words, row)?) {
         return Ok(false);
     }
     let force = force_of(words, seen.damaged);
-    if let Some(longer) = longer_of(rt, words, seen, board.row())? {
+    if let Some(longer) = longer_of(rt, words, seen, row)? {
         // (if standard error fails too there is nobody to tell)
         let _said = eprintln!(rt; "spiffs: {longer}, or {force}");
         return Ok(true);
@@ -208,7 +290,7 @@ pub fn is_stopped<W: Write + Drop>(
     if is_refused(rt, Some(seen)) {
         return Ok(true);
     }
-    let Some(short) = short_of(board.row()) else {
+    let Some(short) = short_of(row) else {
         return Ok(false);
     };
     let path = Shown(names.split(',').nth(short.chip).unwrap_or(names));

@@ -14,7 +14,7 @@ use vol_mount::{MountErr, ReaderLent, accept_reader, mount};
 pub struct Seen {
     /// How many ids are damaged.
     pub damaged: u32,
-    /// How many files are whole, where ids are damaged.
+    /// How many files are whole, where ids are damaged, or the volume is a `plain` one.
     pub whole: u32,
     /// Where another META reads more whole files.
     pub better: Option<Better>,
@@ -113,6 +113,19 @@ fn seen_by(given: u32, guess: Guess, removes: bool) -> Seen {
     }
 }
 
+// How many files are whole, where no id is damaged: asked where a row of more blocks may begin there too, that is of a `plain` volume.
+fn whole_of<N: Nor>(
+    g: &Geometry,
+    nor: &mut N,
+    lent: &mut ReaderLent<'_>,
+) -> Result<u32, Failed> {
+    if g.magic != MagicKind::Plain {
+        return Ok(0);
+    }
+    let counts = count_files(g, nor, lent.work, lent.cache, lent.check)?;
+    Ok(counts.whole)
+}
+
 // Looks at a volume that mounts; where the command is forced, no other META is tried.
 fn look_at<N: Nor>(
     g: &Geometry,
@@ -137,7 +150,7 @@ fn look_at<N: Nor>(
         Some(guess) => seen_by(g.meta(), guess, removes),
         None => Seen {
             damaged: 0,
-            whole: 0,
+            whole: whole_of(g, nor, lent)?,
             better: None,
         },
     }))
