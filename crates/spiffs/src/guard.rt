@@ -92,6 +92,22 @@ impl fmt::Display for Force {
     }
 }
 
+// Ids of the very volume that was given which have two header pages or more.
+#[derive(Clone, Copy, Debug, PartialEq, Eq)]
+struct Doubled {
+    ids: u32,
+}
+
+impl fmt::Display for Doubled {
+    fn fmt<W: fmt::Write>(&self, f: &mut fmt::Formatter<W>) -> fmt::Result {
+        let ids = self.ids;
+        write!(
+            f,
+            "{ids} ids have two header pages: two volumes may stand end to end; nothing was written; try the BLOCKS of the first one"
+        )
+    }
+}
+
 // All bytes of a file that is a chip, where they may be a volume's.
 fn bytes_of(alloc: Global, chip: &FileChip) -> Result<Option<Vec<u8>>, AllocError> {
     let Some(mut whole) = chip.whole() else {
@@ -150,27 +166,62 @@ fn longer_by(whole: u32, given: &Geometry, found: &Found) -> Longer {
     }
 }
 
-// Another number of blocks that reads more whole files, of a volume of one chip.
-fn longer_of(
+// The volume that is found where that one begins, with the number of blocks by which most files are whole; none where there are several chips.
+fn find_alike(
     rt: &HostRuntime,
-    words: &[String],
-    seen: Seen,
+    given: &Geometry,
     row: &ChipRow<FileChip>,
-) -> Result<Option<Longer>, Refusal> {
-    let (Some(given), [chip]) = (geometry_of(words), row.chips()) else {
+) -> Result<Option<Found>, Refusal> {
+    let [chip] = row.chips() else {
         return Ok(None);
     };
     let Some(bytes) = bytes_of(rt.alloc(), chip)? else {
         return Ok(None);
     };
     let found = found_in(rt.alloc(), &bytes)?;
-    let Some(found) = best_of(&found, &given) else {
-        return Ok(None);
-    };
-    if found.volume.blocks() == given.blocks() || found.counts.whole <= most_given(&seen) {
-        return Ok(None);
+    Ok(best_of(&found, given))
+}
+
+// Another number of blocks that reads more whole files.
+fn longer_of(given: &Geometry, seen: &Seen, found: &Found) -> Option<Longer> {
+    if found.volume.blocks() == given.blocks() || found.counts.whole <= most_given(seen) {
+        return None;
     }
-    Ok(Some(longer_by(seen.whole, &given, &found)))
+    Some(longer_by(seen.whole, given, found))
+}
+
+// Ids that have two header pages or more, where two ids or more have.
+fn doubled_of(given: &Geometry, found: &Found) -> Option<Doubled> {
+    if found.volume.blocks() != given.blocks() || found.doubled < 2 {
+        return None;
+    }
+    Some(Doubled { ids: found.doubled })
+}
+
+// Says why other numbers of blocks may be meant, if so.
+fn tell_blocks(
+    rt: &HostRuntime,
+    words: &[String],
+    seen: &Seen,
+    row: &ChipRow<FileChip>,
+    force: Force,
+) -> Result<bool, Refusal> {
+    let Some(given) = geometry_of(words) else {
+        return Ok(false);
+    };
+    let Some(found) = find_alike(rt, &given, row)? else {
+        return Ok(false);
+    };
+    if let Some(longer) = longer_of(&given, seen, &found) {
+        // (if standard error fails too there is nobody to tell)
+        let _said = eprintln!(rt; "spiffs: {longer}, or {force}");
+        return Ok(true);
+    }
+    if let Some(doubled) = doubled_of(&given, &found) {
+        let _said = eprintln!(rt; "spiffs: {doubled}, or {force}");
+        return Ok(true);
+    }
+    Ok(false)
 }
 
 // Whether a block behind the volume has the magic that all blocks of a `plain` volume have.
@@ -282,9 +333,7 @@ pub fn is_stopped<W: Write + Drop>(
         return Ok(false);
     }
     let force = force_of(words, seen.damaged);
-    if let Some(longer) = longer_of(rt, words, seen, row)? {
-        // (if standard error fails too there is nobody to tell)
-        let _said = eprintln!(rt; "spiffs: {longer}, or {force}");
+    if tell_blocks(rt, words, &seen, row, force)? {
         return Ok(true);
     }
     if is_refused(rt, Some(seen)) {
@@ -294,6 +343,7 @@ pub fn is_stopped<W: Write + Drop>(
         return Ok(false);
     };
     let path = Shown(names.split(',').nth(short.chip).unwrap_or(names));
+    // (if standard error fails too there is nobody to tell)
     let _said = eprintln!(rt; "spiffs: {path}: {short}, or {force}");
     Ok(true)
 }
