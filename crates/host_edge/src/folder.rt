@@ -2,12 +2,12 @@
 ghost use Rattle.std.specs.Prelude.{◌≡◌, ◌^◌, ◌<◌, [], length};
 ghost use Rattle.host_edge.specs.Host.{host_entries, few_entries};
 
+use crate::Trouble;
 use crate::bad_name::{BadName, first_bad};
 use crate::host_file::{HostFile, Listed, PassedOver, list, name_of, read_at, size_of};
 use crate::opening::{Bounds, Current, Place};
 use crate::put::{path_for, put_in};
 use crate::trouble::note;
-use crate::Trouble;
 use folder_core::{Folder, FolderState};
 use nor_core::{Failed, MemErr};
 use std::alloc::{AllocError, Global};

@@ -4,11 +4,11 @@ use crate::shown::Shown;
 use crate::trouble::{Step, Trouble};
 use crate::{Access, HeldFile};
 use std::alloc::{AllocError, Global};
+use std::fmt::Write;
 use std::fs::{File, Metadata, OpenOptions};
 use std::io::ErrorKind;
 use std::os::unix::fs::{MetadataExt, OpenOptionsExt, PermissionsExt};
 use std::rt::Files;
-use std::fmt::Write;
 use std::{fs, io};
 
 /// The most links that are followed.
@@ -57,7 +57,11 @@ fn path_behind(alloc: Global, path: &str, link: &str) -> Result<String, AllocErr
 }
 
 // The file that a path leads to, through links, be it there or not.
-fn file_behind<R: Files<File = File>>(rt: &R, alloc: Global, path: &str) -> Result<String, Trouble> {
+fn file_behind<R: Files<File = File>>(
+    rt: &R,
+    alloc: Global,
+    path: &str,
+) -> Result<String, Trouble> {
     let mut behind = String::from_str(alloc, path)?;
     for _ in 0..LINKS {
         if let Ok(there) = rt.canonicalize(alloc, behind.as_str()) {
@@ -189,7 +193,9 @@ fn sync_folder<R: Files<File = File>>(rt: &R, alloc: Global, path: &str) -> Resu
     match file.sync_all() {
         Ok(()) => Ok(()),
         // (a file system that syncs no folders says so)
-        Err(why) if matches!(why.kind(), ErrorKind::InvalidInput | ErrorKind::Unsupported) => Ok(()),
+        Err(why) if matches!(why.kind(), ErrorKind::InvalidInput | ErrorKind::Unsupported) => Ok(
+            (),
+        ),
         Err(why) => Err(Trouble::Folder {
             path: format!(in alloc; "{}", Shown(folder))?,
             why,

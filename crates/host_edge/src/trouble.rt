@@ -81,7 +81,10 @@ pub enum Trouble {
     Shorter,
     /// The block device has fewer bytes than the chip.
     #[error("the device has {length} bytes, and the chip ends at byte {size}")]
-    Small { length: u64, size: u32 },
+    Small {
+        length: u64,
+        size: u32,
+    },
     /// What was written can't be brought onto the host's medium.
     #[error("the chip file can't be synced: {0}")]
     Sync(io::Error),
@@ -94,7 +97,10 @@ pub enum Trouble {
     },
     /// The file is replaced, but its folder can't be brought onto the host's medium. The path is the folder's, and may be shown.
     #[error("is written, but a cut of the host may bring the old file back: {path} can't be synced: {why}")]
-    Folder { path: String, why: io::Error },
+    Folder {
+        path: String,
+        why: io::Error,
+    },
     /// A device is no file that can be replaced.
     #[error("is a block device, and can't be replaced")]
     Device,

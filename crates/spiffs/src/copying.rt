@@ -8,9 +8,7 @@ use crate::{
     explain_chip, explain_removed, explain_status,
 };
 use copy_tool::{copy_tool, is_accepted};
-use host_edge::{
-    Access, StdBoard, Unfinished, busy_chip, finish_row, is_one_file, row_trouble,
-};
+use host_edge::{Access, StdBoard, Unfinished, busy_chip, finish_row, is_one_file, row_trouble};
 use nor_core::Failed;
 use std::alloc::AllocError;
 use tool_parts::chip_size_of;

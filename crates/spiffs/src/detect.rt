@@ -77,9 +77,7 @@ fn row_of(rt: &HostRuntime, words: &[String]) -> Result<ChipRow<FileChip>, Refus
     let size = chip_size(&opened)?;
     let mut chips = Vec::new(rt.alloc());
     for chip in opened {
-        chips
-            .push(chip.resized(size, 1))
-            .map_err(AllocError::from)?;
+        chips.push(chip.resized(size, 1)).map_err(AllocError::from)?;
     }
     match ChipRow::new(chips, size, 1) {
         Ok(row) => Ok(row),

@@ -54,15 +54,7 @@ fn give_alone<C: HostChip>(
 ) -> Result<Told<C>, Stop> {
     let mut memory = take_memory(rt, &meant.top)?;
     let mut folder = StdFolder::unlisted(rt, rt.alloc());
-    Ok(give_on(
-        rt,
-        meant,
-        row,
-        b"",
-        &mut folder,
-        &mut memory,
-        guard,
-    )?)
+    Ok(give_on(rt, meant, row, b"", &mut folder, &mut memory, guard)?)
 }
 
 // Lists the files of the volume. Nothing is written.

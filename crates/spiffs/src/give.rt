@@ -53,12 +53,7 @@ pub struct Told<C: HostChip> {
 /// The part of the image's file that the volume is. An image that is to be made has no file.
 pub fn chip_file(meant: &Meant<'_>) -> Result<PartChip, Stop> {
     match &meant.held {
-        Some(held) => Ok(PartChip::over(
-            held,
-            meant.volume.at,
-            meant.size,
-            meant.unit,
-        )),
+        Some(held) => Ok(PartChip::over(held, meant.volume.at, meant.size, meant.unit)),
         None => Err(Stop::Status(BOARD_FAULT)),
     }
 }

@@ -177,11 +177,7 @@ fn short_of(row: &ChipRow<FileChip>) -> Option<Short> {
         let length = one.length();
         let size = one.size();
         if length < u64::from(size) {
-            return Some(Short {
-                chip,
-                length,
-                size,
-            });
+            return Some(Short { chip, length, size });
         }
     }
     None

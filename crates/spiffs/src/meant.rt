@@ -114,12 +114,7 @@ fn hold_image(rt: &HostRuntime, image: &str, asked: &Asked) -> Result<Option<Hel
 }
 
 // All bytes of the image.
-fn bytes_of(
-    rt: &HostRuntime,
-    image: &str,
-    held: &HeldFile,
-    length: u32,
-) -> Result<Vec<u8>, Stop> {
+fn bytes_of(rt: &HostRuntime, image: &str, held: &HeldFile, length: u32) -> Result<Vec<u8>, Stop> {
     let mut bytes = vec![in rt.alloc(); 0u8; length as usize]?;
     if bytes.is_empty() {
         return Ok(bytes);
@@ -271,13 +266,7 @@ fn doubt_of(asked: &Asked, found: &[Candidate], volume: &Volume) -> Option<Unset
 }
 
 // Says, where a line only reads, why one that writes would go no further.
-fn tell_doubt(
-    rt: &HostRuntime,
-    image: &str,
-    asked: &Asked,
-    found: &[Candidate],
-    volume: &Volume,
-) {
+fn tell_doubt(rt: &HostRuntime, image: &str, asked: &Asked, found: &[Candidate], volume: &Volume) {
     if writes(asked) || !wants_detect(asked) {
         return;
     }

@@ -1,8 +1,8 @@
 //! Images that were changed or made in memory, and how they come into their files.
+use crate::BOARD_FAULT;
 use crate::give::{explain_image, row_of, trouble_of};
 use crate::meant::{Meant, refuse_image};
 use crate::stop::Stop;
-use crate::BOARD_FAULT;
 use chip_row::{Chip, ChipRow};
 use front_edge::PartChip;
 use host_edge::{HeldFile, Trouble, replace_file};
@@ -16,21 +16,14 @@ const PIECE: usize = 16_384;
 pub fn is_replaced(meant: &Meant<'_>) -> bool {
     match &meant.held {
         Some(held) => {
-            !held.is_device()
-                && meant.volume.at == 0
-                && held.length() <= u64::from(meant.size)
+            !held.is_device() && meant.volume.at == 0 && held.length() <= u64::from(meant.size)
         }
         None => true,
     }
 }
 
 // Whether a file holds these bytes from a place on, as many as `piece` has room for.
-fn holds_piece(
-    held: &HeldFile,
-    at: u64,
-    bytes: &[u8],
-    piece: &mut [u8],
-) -> Result<bool, Trouble> {
+fn holds_piece(held: &HeldFile, at: u64, bytes: &[u8], piece: &mut [u8]) -> Result<bool, Trouble> {
     let Some(read) = piece.get_mut(..bytes.len()) else {
         return Ok(false);
     };
@@ -62,13 +55,7 @@ fn replace(rt: &HostRuntime, meant: &Meant<'_>, bytes: &[u8]) -> Result<(), Trou
             return Ok(());
         }
     }
-    replace_file(
-        rt,
-        rt.alloc(),
-        meant.image,
-        meant.held.as_ref(),
-        bytes,
-    )
+    replace_file(rt, rt.alloc(), meant.image, meant.held.as_ref(), bytes)
 }
 
 // Erases a unit of a device.
@@ -157,11 +144,7 @@ pub fn save_image(rt: &HostRuntime, meant: &Meant<'_>, bytes: &[u8]) -> Result<(
 }
 
 /// Puts the image that a chip in memory holds into its file.
-pub fn save_copy(
-    rt: &HostRuntime,
-    meant: &Meant<'_>,
-    row: &ChipRow<MemChip>,
-) -> Result<(), Stop> {
+pub fn save_copy(rt: &HostRuntime, meant: &Meant<'_>, row: &ChipRow<MemChip>) -> Result<(), Stop> {
     match row.chips().first() {
         Some(chip) => save_image(rt, meant, chip.image()),
         None => Err(Stop::Status(BOARD_FAULT)),

@@ -58,9 +58,7 @@ impl fmt::Display for Wrong<'_> {
                     "{name} is a number from {least} to {most} in decimal digits, and not {given}"
                 )
             }
-            Wrong::Magic(given) => {
-                write!(f, "MAGIC is len or plain, and not {}", Shown(given))
-            }
+            Wrong::Magic(given) => { write!(f, "MAGIC is len or plain, and not {}", Shown(given)) }
             Wrong::Empty(name) => write!(f, "{name} is empty"),
             Wrong::Last(given) => write!(
                 f,
