@@ -133,12 +133,13 @@ fn explain_fault(
     trouble: Option<&Trouble>,
 ) {
     if trouble.is_some() {
-        return explain_image(rt, meant, trouble);
+        explain_image(rt, meant, trouble);
+    } else {
+        let image = Shown(meant.image);
+        let given = Shown(given);
+        // (if standard error fails too there is nobody to tell)
+        let _said = eprintln!(rt; "spiffs: {image}: {given}: {why}");
     }
-    let image = Shown(meant.image);
-    let given = Shown(given);
-    // (if standard error fails too there is nobody to tell)
-    let _said = eprintln!(rt; "spiffs: {image}: {given}: {why}");
 }
 
 /// Prints the bytes of a file. In its name `%` and two hexadecimal digits stand for a byte.
@@ -161,9 +162,6 @@ pub fn cat(rt: &HostRuntime, meant: &Meant<'_>) -> Result<u8, Stop> {
             Ok(BOARD_FAULT)
         }
         Some(Printed::Closed) => Ok(BOARD_FAULT),
-        None => {
-            drop(row);
-            end_unmounted(rt, meant, &mut memory)
-        }
+        None => end_unmounted(rt, meant, &mut memory),
     }
 }

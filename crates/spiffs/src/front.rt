@@ -96,24 +96,29 @@ fn check(rt: &HostRuntime, meant: &Meant<'_>) -> Result<u8, Stop> {
     Ok(end_told(rt, meant, &told))
 }
 
+// Does what a word asks of an image.
+fn do_word(rt: &HostRuntime, meant: &mut Meant<'_>, word: Word) -> Result<u8, Stop> {
+    match word {
+        Word::Pack | Word::Gen => pack(rt, meant),
+        Word::Unpack => unpack(rt, meant),
+        Word::Fsck => check(rt, meant),
+        Word::Cat => cat(rt, meant),
+        Word::Put => put(rt, meant),
+        Word::Rm => remove(rt, meant),
+        Word::Mv => rename(rt, meant),
+        Word::Df => df(rt, meant),
+        Word::Picture => picture(rt, meant),
+        _ => list(rt, meant),
+    }
+}
+
 // Does what a line asks.
 fn perform(rt: &HostRuntime, words: &[String], asked: Asked) -> Result<u8, Stop> {
     if asked.word == Word::Size {
         return size(rt, words, &asked);
     }
     let mut meant = find_meant(rt, words, asked)?;
-    let status = match asked.word {
-        Word::Pack | Word::Gen => pack(rt, &mut meant),
-        Word::Unpack => unpack(rt, &mut meant),
-        Word::Fsck => check(rt, &meant),
-        Word::Cat => cat(rt, &meant),
-        Word::Put => put(rt, &meant),
-        Word::Rm => remove(rt, &meant),
-        Word::Mv => rename(rt, &meant),
-        Word::Df => df(rt, &meant),
-        Word::Picture => picture(rt, &meant),
-        _ => list(rt, &meant),
-    }?;
+    let status = do_word(rt, &mut meant, asked.word)?;
     Ok(end_image(rt, &meant, status))
 }
 

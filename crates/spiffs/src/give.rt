@@ -152,7 +152,8 @@ fn refuse_harmed<C: HostChip>(
 ) -> Result<Told<C>, Refusal> {
     let words = top_words(rt.alloc(), Word::Ls, &meant.volume, meant.image)?;
     let mut board = board;
-    let mut script = StdSource::new(&b""[..]);
+    let nothing: &[u8] = b"";
+    let mut script = StdSource::new(nothing);
     let mut folder = StdFolder::unlisted(rt, rt.alloc());
     let mut bufs = memory.lend();
     let listed = spiffs_tool(&words, &mut board, &mut script, &mut folder, &mut bufs);

@@ -292,11 +292,14 @@ fn choose_volume(
         is_forced: true,
         ..*asked
     };
-    let (settled, is_harmed) = match settle(asked, length, found) {
-        Err(Unsettled::Harmed(_)) => (settle(&forced, length, found), true),
-        settled => (settled, false),
+    let settled = settle(asked, length, found);
+    let is_harmed = matches!(settled, Err(Unsettled::Harmed(_)));
+    let meant = if is_harmed {
+        settle(&forced, length, found)
+    } else {
+        settled
     };
-    match settled {
+    match meant {
         Ok(volume) => {
             tell_doubt(rt, image, asked, found, &volume);
             Ok((volume, is_harmed))

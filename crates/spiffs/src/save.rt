@@ -10,7 +10,7 @@ use nor_core::{Failed, Nor};
 use nor_memory::MemChip;
 
 /// Bytes of a file that are compared at a time.
-const PIECE: usize = 65_536;
+const PIECE: usize = 16_384;
 
 /// Whether the volume is all that the image's file holds, and that is a plain file: then it is changed in memory, and its file replaced.
 pub fn is_replaced(meant: &Meant<'_>) -> bool {
@@ -28,7 +28,8 @@ fn holds_piece(held: &HeldFile, at: u64, bytes: &[u8], piece: &mut [u8]) -> Resu
         return Ok(false);
     };
     held.read_at(at, read)?;
-    Ok(*read == *bytes)
+    let there: &[u8] = read;
+    Ok(there == bytes)
 }
 
 // Whether a file holds these bytes and no more.
@@ -57,25 +58,32 @@ fn replace(rt: &HostRuntime, meant: &Meant<'_>, bytes: &[u8]) -> Result<(), Trou
     replace_file(rt, rt.alloc(), meant.image, meant.held.as_ref(), bytes)
 }
 
-// Erases a unit, and programs it.
-fn write_unit<N: Nor>(nor: &mut N, unit_ix: u32, at: u32, bytes: &[u8]) -> Result<(), Failed> {
-    if unit_ix >= nor.size() / nor.unit().max(1) || bytes.is_empty() {
+// Erases a unit of a device.
+fn erase_unit<N: Nor>(nor: &mut N, unit_ix: u32) -> Result<(), Failed> {
+    let unit = nor.unit();
+    if unit == 0 || unit_ix >= nor.size() / unit {
         return Err(Failed);
     }
-    if bytes.len() > nor.size().saturating_sub(at) as usize {
+    nor.erase(unit_ix, None)
+}
+
+// Programs bytes of a device from a place on.
+fn program_unit<N: Nor>(nor: &mut N, at: u32, bytes: &[u8]) -> Result<(), Failed> {
+    let left = nor.size().saturating_sub(at);
+    if bytes.is_empty() || bytes.len() > left as usize {
         return Err(Failed);
     }
-    nor.erase(unit_ix, None)?;
     nor.program(at, bytes)
 }
 
-// Writes bytes to a chip, unit by unit.
+// Writes bytes to a device, unit by unit.
 fn write_units<N: Nor>(nor: &mut N, bytes: &[u8]) -> Result<(), Failed> {
-    let unit = nor.unit();
+    let unit = nor.unit().max(1);
     let mut at = 0u32;
     let mut unit_ix = 0u32;
-    for part in bytes.chunks((unit as usize).max(1)) {
-        write_unit(nor, unit_ix, at, part)?;
+    for part in bytes.chunks(unit as usize) {
+        erase_unit(nor, unit_ix)?;
+        program_unit(nor, at, part)?;
         unit_ix = unit_ix.saturating_add(1);
         at = at.saturating_add(unit);
     }
@@ -137,7 +145,7 @@ pub fn save_image(rt: &HostRuntime, meant: &Meant<'_>, bytes: &[u8]) -> Result<(
 
 /// Puts the image that a chip in memory holds into its file.
 pub fn save_copy(rt: &HostRuntime, meant: &Meant<'_>, row: &ChipRow<MemChip>) -> Result<(), Stop> {
-    match row.chips().get(0) {
+    match row.chips().first() {
         Some(chip) => save_image(rt, meant, chip.image()),
         None => Err(Stop::Status(BOARD_FAULT)),
     }

@@ -130,20 +130,31 @@ fn change_file(
     sync_image(rt, meant)
 }
 
-// Runs the scripts on a copy in memory. Unless the file is only to be read the copy then comes into its place, or, where the volume is a part
-// of the file or stands on a device, they are run on it.
+// Runs the scripts on a copy in memory, and answers what the volume held before. Unless the file is only to be read the copy then comes into
+// its place, where the volume is all that it holds.
+fn change_copy(
+    rt: &HostRuntime,
+    meant: &Meant<'_>,
+    script: &Script,
+    memory: &mut Memory,
+) -> Result<Option<Seen>, Stop> {
+    let copy = row_of(rt, meant, chip_copy(rt, meant)?)?;
+    let (seen, copy) = run_all(rt, meant, copy, script, memory, Guard::Rehearses)?;
+    if !meant.asked.is_dry && is_replaced(meant) {
+        save_copy(rt, meant, &copy)?;
+    }
+    Ok(seen)
+}
+
+// Runs the scripts on a copy in memory, and changes the image.
 fn change(rt: &HostRuntime, meant: &Meant<'_>, script: &Script) -> Result<u8, Stop> {
     let mut memory = take_memory(rt, &meant.top)?;
-    let copy = row_of(rt, meant, chip_copy(rt, meant)?)?;
-    let (seen, copy) = run_all(rt, meant, copy, script, &mut memory, Guard::Rehearses)?;
+    let seen = change_copy(rt, meant, script, &mut memory)?;
     if meant.asked.is_dry {
         explain_damaged(rt, seen);
         return Ok(0);
     }
-    if is_replaced(meant) {
-        save_copy(rt, meant, &copy)?;
-    } else {
-        drop(copy);
+    if !is_replaced(meant) {
         change_file(rt, meant, script, &mut memory)?;
     }
     explain_removed(rt, seen, 0);
