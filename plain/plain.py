@@ -116,6 +116,7 @@ class Edition:
     """The workspace, as texts by path."""
 
     def __init__(self, top, parts):
+        self.top = top
         self.parts = parts
         self.files = {}
         self.home = {}
@@ -123,7 +124,7 @@ class Edition:
         for package in PACKAGES:
             self.write_package(package)
         for path in sorted(parts.rglob("*")):
-            if path.is_file() and path.suffix not in (".head", ".extra"):
+            if path.is_file() and path.suffix not in (".head", ".extra", ".more"):
                 self.files[str(path.relative_to(parts))] = path.read_text(encoding="utf-8")
         self.files["SOURCE"] = source_text(top)
 
@@ -162,6 +163,10 @@ class Edition:
         if modules:
             self.files[f"{package.name}/src/lib.rs"] = self.lib_text(package, modules)
         self.files[f"{package.name}/Cargo.toml"] = self.manifest(package, uses - {package.name})
+        if package.no_std:
+            self.files[f"{package.name}/README.md"] = read_me(package.name, self.part(package, "lib.head"))
+            for path in sorted(self.top.glob("LICENSE-*")):
+                self.files[f"{package.name}/{path.name}"] = path.read_text(encoding="utf-8")
 
     # Writes the modules of a crate, and answers which packages they use.
     def write_crate(self, package, crate):
@@ -171,6 +176,8 @@ class Edition:
             is_hosted = rules.uses_host(text)
             text = rules.with_roots(text, lambda word: self.root_of(package, crate, stem, is_hosted, word))
             text = rules.displays(rules.errors(text, package.no_std))
+            if package.no_std:
+                text = rules.in_words(rules.closed(rules.constant(text, crate.name, stem), crate.name, stem))
             if is_hosted:
                 text = rules.hosted(text)
             if stem == "main":
@@ -190,14 +197,18 @@ class Edition:
             text += '#![no_std]\n#![forbid(unsafe_code)]\n\n#[cfg(feature = "std")]\nextern crate std;\n\n'
             text += '#[cfg(target_pointer_width = "16")]\ncompile_error!("16 bits of address are too few");\n\n'
         text += "".join(f"#[doc(inline)]\npub use self::{name}::*;\n" for name in package.exported)
-        return text + "\n" + "".join(("#[cfg(unix)]\n" if name in HOST_CRATES else "") + f"pub mod {name};\n" for name in modules)
+        if package.no_std:
+            text += self.part(package, "lib.more")
+        hidden = [name for name in modules if package.no_std and name not in package.exported]
+        marks = {**{name: "#[doc(hidden)]\n" for name in hidden}, **{name: "#[cfg(unix)]\n" for name in HOST_CRATES}}
+        return text + "\n" + "".join(marks.get(name, "") + f"pub mod {name};\n" for name in modules)
 
     def manifest(self, package, uses):
         text = f'[package]\nname = "{package.name}"\nversion = "0.1.0"\nedition = "2024"\nrust-version = "1.87"\n'
         text += self.part(package, "Cargo.extra") or "publish = false\n"
         text += "\n[dependencies]\n" + "".join(self.dependency(package, name) for name in sorted(uses))
         if package.no_std:
-            text += '\n[features]\nstd = ["dep:thiserror"]\n'
+            text += "\n[features]\nstd = []\n"
         if any(crate.is_program() for crate in package.crates):
             # (a program starts by `rattle_host::main!`, which a test of it can't)
             text += f'\n[[bin]]\nname = "{package.name}"\npath = "src/main.rs"\ntest = false\n'
@@ -206,8 +217,14 @@ class Edition:
     def dependency(self, package, name):
         is_engine = any(other.name == name and other.no_std for other in PACKAGES)
         said = REGISTRY.get(name, f'path = "../{name}"') + (', features = ["std"]' if is_engine else "")
-        optional = ", optional = true" if package.no_std and name == "thiserror" else ""
+        optional = ""
         return f"{name} = {{ {said}{optional} }}\n"
+
+
+def read_me(name, docs):
+    """What a registry shows of a package: its docs."""
+    lines = [line[4:] if line.startswith("//! ") else "" for line in docs.splitlines()]
+    return f"# {name}\n\n" + "\n".join(lines).replace("```\nuse ", "```rust\nuse ", 1).strip() + "\n"
 
 
 def source_text(top):

@@ -73,14 +73,94 @@ def drops(text):
 
 
 def errors(text, no_std):
-    """`thiserror`: `#[from(alloc)]` is `#[from]`. Where there is no std an error is one with the feature `std` alone."""
+    """`thiserror`: `#[from(alloc)]` is `#[from]`. Where there is no std the words become a `Display` of our own, and the type an error of
+    core, so that neither std nor a crate is wanted for it."""
     text = text.replace("#[from(alloc)]", "#[from]")
     if not no_std:
         return text
-    gate = '#[cfg_attr(feature = "std", derive(thiserror::Error))]'
-    text = re.sub(r"^#\[derive\((.*), Error\)\]$", rf"#[derive(\1)]\n{gate}", text, flags=re.M)
-    text = re.sub(r"^( *)#\[(error\(.*\))\]$", r'\1#[cfg_attr(feature = "std", \2)]', text, flags=re.M)
+    text = re.sub(r"^#\[derive\(([^)]*), Error\)\]\n((?:#[^\n]*\n)*)((?:pub )?(?:enum|struct) (\w+)[^;{]*(?:;|\{.*?^\}))", told_error, text, flags=re.M | re.S)
     return re.sub(r"^use thiserror::Error;\n", "", text, flags=re.M)
+
+
+# A type with the words of each of its forms.
+WORDS = re.compile(r'^ *#\[error\(\s*("(?:\\.|[^"\\])*"),?\s*\)\]\n', re.M | re.S)
+
+
+def told_error(match):
+    """An error's type without the words, and behind it the code that says them."""
+    derives, attributes, item, name = match.groups()
+    whole = WORDS.search(attributes)
+    if whole:
+        arms = [arm_of("Self", re.findall(r"^    pub (\w+):", item, re.M), None, whole.group(1))]
+    else:
+        arms = [variant_arm(found) for found in re.finditer(WORDS.pattern + r"((?:^ *///[^\n]*\n)*)^ *(\w+)(\([^)]*\)|\s*\{[^}]*\})?,", item, re.M | re.S)]
+    item = WORDS.sub("", item)
+    said = f"impl core::fmt::Display for {name} {{\nfn fmt(&self, f: &mut core::fmt::Formatter<'_>) -> core::fmt::Result {{\nmatch self {{\n"
+    return f"#[derive({derives})]\n{WORDS.sub('', attributes)}{item}\n\n{said}{''.join(arms)}}}\n}}\n}}\n\nimpl core::error::Error for {name} {{}}"
+
+
+def variant_arm(found):
+    words, _, name, fields = found.groups()
+    if not fields:
+        return arm_of(f"Self::{name}", [], None, words)
+    if fields.startswith("("):
+        return arm_of(f"Self::{name}", [], fields.count(",") + 1, words)
+    return arm_of(f"Self::{name}", re.findall(r"(\w+):(?!:)", re.sub(r"//[^\n]*", "", fields)), None, words)
+
+
+def arm_of(path, named, count, words):
+    """What a form says: its fields are named in the words, or have numbers there."""
+    if count:
+        fields = [f"f{i}" for i in range(count)]
+        return f"{path}({', '.join(fields)}) => write!(f, {words}, {', '.join(fields)}),\n"
+    if named:
+        used = [name for name in named if f"{{{name}}}" in words]
+        return f"{path} {{ {', '.join(used + ['..'])} }} => write!(f, {words}),\n"
+    return f"{path} => f.write_str({words}),\n"
+
+
+# Functions that firmware calls in constants: of these modules all that aren't a trait's.
+CONST = {("geometry", "geometry"), ("geometry", "rules"), ("fd_table", "slot")}
+
+
+def constant(text, crate, stem):
+    """Functions of arithmetic alone become `const`, so that a `static` can be of the size that a volume needs."""
+    if (crate, stem) not in CONST:
+        return text
+    text = re.sub(r"\bu64::from\(([^()]*)\)", r"(\1) as u64", text)
+    text = text.replace("(block / page * 2 / page).max(1)", "max1(block / page * 2 / page)")
+    if "max1(" in text:
+        text += "\n// (`Ord::max` isn't const)\nfn max1(count: u32) -> u32 {\n    if count == 0 { 1 } else { count }\n}\n"
+    return re.sub(r"^( *(?:pub |pub\(crate\) )?)fn (?=\w)", r"\1const fn ", text, flags=re.M)
+
+
+def closed(text, crate, stem):
+    """The fields of a volume are the crate's alone, but for those that only tell: what is said of it holds whatever a caller does."""
+    if (crate, stem) != ("volume", "volume"):
+        return text
+    head = re.search(r"^pub struct Volume<.*?^\}", text, re.M | re.S)
+    own = re.sub(r"^    pub (?=(?:nor|work|cache|slots|window|held|numbers|stage):)", "    pub(crate) ", head.group(), flags=re.M)
+    return text[: head.start()] + own + text[head.end() :]
+
+
+# What callers owe, in words, by the formula that says it.
+OWED = {
+    "`N.unit nor.old ≡ g.phys`": "the chip's erase unit is that of the numbers (`accept` tests it)",
+    "`g.blocks * g.block ≤ N.size nor.old`": "the chip is at least as large as the volume (`accept` tests it)",
+    "`work_need g ≤ length lent.work.now`": "`work` has at least `Geometry::work_need` bytes (`accept` tests it)",
+    "`cache_need g ≤ length lent.cache.now`": "`cache` has at least `Geometry::cache_need` bytes (`accept` tests it)",
+    "`g.page ≤ length lent.window.now`": "`window` has at least a page (`accept` tests it)",
+    "`is_mounted self.old.stage ≡ true`": "`mount` answered `Ok` since the volume was made or last unmounted, and nothing was called since",
+    "`check_need self.old.geometry ≤ length lent.old`": "`lent` has at least `Geometry::check_need` bytes (`accept_check` tests it); else this panics",
+    "`(1 ≤ limit) × (limit ≤ 32767)`": "`limit` is from 1 to 32767",
+    "`HasRoomFor (asked call.now) (length into.old)`": "`into` has as many bytes as a read or a fill asks for; else this panics",
+    "`block_ix < self.now.blocks`": "`block_ix` is below `blocks`",
+}
+
+
+def in_words(text):
+    """What callers owe is told in words where there are some; the formula stays behind them."""
+    return re.sub(r"^( *///) - \w+: (`[^\n]*`)$", lambda m: f"{m[1]} - {OWED[m[2]]}: {m[2]}" if m[2] in OWED else m[0], text, flags=re.M)
 
 
 def displays(text):

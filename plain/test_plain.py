@@ -81,9 +81,16 @@ class Rules(unittest.TestCase):
         text = "use std::fmt::Write;\nfn f() {}\n"
         self.assertEqual(rules.still_used(text, text), text)
 
-    def test_errors_have_words_with_std(self):
+    def test_errors_say_their_words_without_std(self):
         text = "use thiserror::Error;\n#[derive(Debug, Error)]\n#[error(\"no\")]\nstruct E;\n"
-        self.assertIn('#[cfg_attr(feature = "std", error("no"))]', rules.errors(text, True))
+        told = rules.errors(text, True)
+        self.assertTrue(told.startswith("#[derive(Debug)]\nstruct E;\n"))
+        self.assertIn('Self => f.write_str("no"),', told)
+        self.assertIn("impl core::error::Error for E {}", told)
+        forms = '#[derive(Debug, Error)]\npub enum E {\n    /// A.\n    #[error("{0}")]\n    A(B),\n    #[error("{n} lack")]\n    C { n: u32, m: u32 },\n}\n'
+        told = rules.errors(forms, True)
+        self.assertIn('Self::A(f0) => write!(f, "{0}", f0),', told)
+        self.assertIn('Self::C { n, .. } => write!(f, "{n} lack"),', told)
         self.assertEqual(rules.errors(text, False), text)
 
     def test_what_takes_the_allocator_has_a_name_of_its_own(self):
