@@ -127,7 +127,7 @@ class Edition:
         for package in PACKAGES:
             self.write_package(package)
         for path in sorted(parts.rglob("*")):
-            if path.is_file() and path.suffix not in (".head", ".extra"):
+            if path.is_file() and path.suffix not in (".head", ".extra", ".more"):
                 self.files[str(path.relative_to(parts))] = path.read_text(encoding="utf-8")
         for name in LICENCES:
             text = (parts.parent.parent / name).read_text(encoding="utf-8")
@@ -169,6 +169,8 @@ class Edition:
         if modules:
             self.files[f"{package.name}/src/lib.rs"] = self.lib_text(package, modules)
         self.files[f"{package.name}/Cargo.toml"] = self.manifest(package, uses - {package.name})
+        if package.no_std:
+            self.files[f"{package.name}/README.md"] = read_me(package.name, self.part(package, "lib.head"))
 
     # Writes the modules of a crate, and answers which packages they use.
     def write_crate(self, package, crate):
@@ -178,6 +180,8 @@ class Edition:
             is_hosted = rules.uses_host(text)
             text = rules.with_roots(text, lambda word: self.root_of(package, crate, stem, is_hosted, word))
             text = rules.displays(rules.errors(text, "crate" if package.no_std else ENGINE))
+            if package.no_std:
+                text = rules.in_words(rules.closed(rules.constant(text, crate.name, stem), crate.name, stem))
             if is_hosted:
                 text = rules.hosted(text)
             if stem == "main":
@@ -197,8 +201,10 @@ class Edition:
             text += '#![no_std]\n#![forbid(unsafe_code)]\n\n#[cfg(feature = "std")]\nextern crate std;\n\n'
             text += '#[cfg(target_pointer_width = "16")]\ncompile_error!("16 bits of address are too few");\n\n'
         text += "".join(f"#[doc(inline)]\npub use self::{name}::*;\n" for name in package.exported)
-        text += "\n" + "".join(("#[cfg(unix)]\n" if name in HOST_CRATES else "") + f"pub mod {name};\n" for name in modules)
-        return text + self.part(package, "lib.extra")
+        hidden = [name for name in modules if package.no_std and name not in package.exported]
+        marks = {**{name: "#[doc(hidden)]\n" for name in hidden}, **{name: "#[cfg(unix)]\n" for name in HOST_CRATES}}
+        text += "\n" + "".join(marks.get(name, "") + f"pub mod {name};\n" for name in modules)
+        return text + self.part(package, "lib.more") + self.part(package, "lib.extra")
 
     def manifest(self, package, uses):
         text = f'[package]\nname = "{package.name}"\nversion = "0.1.0"\nedition = "2024"\nrust-version = "1.87"\nlicense = "{LICENCE}"\n'
@@ -215,6 +221,12 @@ class Edition:
         is_engine = any(other.name == name and other.no_std for other in PACKAGES)
         said = REGISTRY.get(name, f'path = "../{name}"') + (', features = ["std"]' if is_engine else "")
         return f"{name} = {{ {said} }}\n"
+
+
+def read_me(name, docs):
+    """What a registry shows of a package: its docs."""
+    lines = [line[4:] if line.startswith("//! ") else "" for line in docs.splitlines()]
+    return f"# {name}\n\n" + "\n".join(lines).replace("```\nuse ", "```rust\nuse ", 1).strip() + "\n"
 
 
 def source_text(top):

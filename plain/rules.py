@@ -126,6 +126,50 @@ def errors(text, root):
     return out + text[at:]
 
 
+# Functions that firmware calls in constants: of these modules all that aren't a trait's.
+CONST = {("geometry", "geometry"), ("geometry", "rules"), ("fd_table", "slot")}
+
+
+def constant(text, crate, stem):
+    """Functions of arithmetic alone become `const`, so that a `static` can be of the size that a volume needs."""
+    if (crate, stem) not in CONST:
+        return text
+    text = re.sub(r"\bu64::from\(([^()]*)\)", r"(\1) as u64", text)
+    text = text.replace("(block / page * 2 / page).max(1)", "max1(block / page * 2 / page)")
+    if "max1(" in text:
+        text += "\n// (`Ord::max` isn't const)\nfn max1(count: u32) -> u32 {\n    if count == 0 { 1 } else { count }\n}\n"
+    return re.sub(r"^( *(?:pub |pub\(crate\) )?)fn (?=\w)", r"\1const fn ", text, flags=re.M)
+
+
+def closed(text, crate, stem):
+    """The fields of a volume are the crate's alone, but for those that only tell: what is said of it holds whatever a caller does."""
+    if (crate, stem) != ("volume", "volume"):
+        return text
+    head = re.search(r"^pub struct Volume<.*?^\}", text, re.M | re.S)
+    own = re.sub(r"^    pub (?=(?:nor|work|cache|slots|window|held|numbers|stage):)", "    pub(crate) ", head.group(), flags=re.M)
+    return text[: head.start()] + own + text[head.end() :]
+
+
+# What callers owe, in words, by the formula that says it.
+OWED = {
+    "`N.unit nor.old ≡ g.phys`": "the chip's erase unit is that of the numbers (`accept` tests it)",
+    "`g.blocks * g.block ≤ N.size nor.old`": "the chip is at least as large as the volume (`accept` tests it)",
+    "`work_need g ≤ length lent.work.now`": "`work` has at least `Geometry::work_need` bytes (`accept` tests it)",
+    "`cache_need g ≤ length lent.cache.now`": "`cache` has at least `Geometry::cache_need` bytes (`accept` tests it)",
+    "`g.page ≤ length lent.window.now`": "`window` has at least a page (`accept` tests it)",
+    "`is_mounted self.old.stage ≡ true`": "`mount` answered `Ok` since the volume was made or last unmounted, and nothing was called since",
+    "`check_need self.old.geometry ≤ length lent.old`": "`lent` has at least `Geometry::check_need` bytes (`accept_check` tests it); else this panics",
+    "`(1 ≤ limit) × (limit ≤ 32767)`": "`limit` is from 1 to 32767",
+    "`HasRoomFor (asked call.now) (length into.old)`": "`into` has as many bytes as a read or a fill asks for; else this panics",
+    "`block_ix < self.now.blocks`": "`block_ix` is below `blocks`",
+}
+
+
+def in_words(text):
+    """What callers owe is told in words where there are some; the formula stays behind them."""
+    return re.sub(r"^( *///) - \w+: (`[^\n]*`)$", lambda m: f"{m[1]} - {OWED[m[2]]}: {m[2]}" if m[2] in OWED else m[0], text, flags=re.M)
+
+
 def displays(text):
     """A text of `Display` is generic over what it is written to: Rust's isn't."""
     generic = r"fn fmt<W: fmt::Write>\(&self, f: &mut fmt::Formatter<W>\)"

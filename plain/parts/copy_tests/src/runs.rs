@@ -169,8 +169,8 @@ pub(crate) fn copy(gf: &Geometry, source: &[u8], g: &Geometry, target: &[u8], sl
         to.check(marks).expect("checked");
         match fault {
             Fault::None => (),
-            Fault::Cut(passed, pick) => to.nor.cut_after(passed, pick),
-            Fault::Target(kind, nth) => to.nor.fail_nth(kind, nth),
+            Fault::Cut(passed, pick) => to.nor_mut().cut_after(passed, pick),
+            Fault::Target(kind, nth) => to.nor_mut().fail_nth(kind, nth),
             Fault::Source(nth) => from.nor.fail_nth(CallKind::Read, nth),
         }
         let mut piece = vec![0x5A; 4096];

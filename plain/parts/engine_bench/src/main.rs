@@ -123,7 +123,7 @@ fn main() -> Result<(), Box<dyn Error>> {
             return Err("the map is refused".into());
         }
     }
-    let before = volume.nor.reads;
+    let before = volume.nor().reads;
     let mut seed = 1;
     for _ in 0..calls.parse()? {
         let at = drawn(&mut seed, size - 1024);
@@ -132,6 +132,6 @@ fn main() -> Result<(), Box<dyn Error>> {
             return Err("another number of bytes".into());
         }
     }
-    println!("{}", volume.nor.reads - before);
+    println!("{}", volume.nor().reads - before);
     Ok(())
 }

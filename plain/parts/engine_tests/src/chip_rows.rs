@@ -80,10 +80,10 @@ fn the_chip_of_a_row_that_fails_is_named_with(rt: HostRuntime) -> Result<(), Fai
     for n in 1..61u8 {
         assert!(rt; volume.create(&[b'f', n]) == Ok(()));
     }
-    let before = images_of(alloc, volume.nor)?;
+    let before = images_of(alloc, volume.nor_mut())?;
     assert!(rt; volume.create(b"last") == Err(FsErr::DeviceFault));
-    assert!(rt; volume.nor.fuse_chip() == Some(1));
-    let after = images_of(alloc, volume.nor)?;
+    assert!(rt; volume.nor_mut().fuse_chip() == Some(1));
+    let after = images_of(alloc, volume.nor_mut())?;
     for i in [0, 2, 3] {
         assert!(rt; before.get(i) == after.get(i));
     }

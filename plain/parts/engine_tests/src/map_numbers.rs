@@ -25,7 +25,7 @@ fn count_told(volume: &Volume<'_, MemBoard>, spans: u32) -> u32 {
 
 // How many data pages of a file the map tells by their numbers; none where it tells another one.
 fn count_pages(volume: &Volume<'_, MemBoard>, g: &Geometry, spans: u32) -> Option<u32> {
-    let image = volume.nor.image();
+    let image = volume.nor().image();
     if !holds_volume(g, image) {
         return None;
     }
@@ -58,12 +58,12 @@ fn size_on(image: &[u8], g: &Geometry, id: u16) -> Option<u32> {
 /// no others.
 pub(crate) fn is_right(volume: &Volume<'_, MemBoard>, g: &Geometry, spans: u32) -> bool {
     volume.map.used
-        && size_on(volume.nor.image(), g, volume.map.id) == Some(volume.map.size)
+        && size_on(volume.nor().image(), g, volume.map.id) == Some(volume.map.size)
         && count_pages(volume, g, spans) == Some(count_told(volume, spans))
         && volume.map_page(spans).is_none()
 }
 
 /// Whether no file of an id is on the chip of a volume.
 pub(crate) fn is_gone(volume: &Volume<'_, MemBoard>, g: &Geometry, id: u16) -> bool {
-    size_on(volume.nor.image(), g, id).is_none()
+    size_on(volume.nor().image(), g, id).is_none()
 }

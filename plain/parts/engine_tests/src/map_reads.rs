@@ -99,7 +99,7 @@ fn write_failing(rt: &impl Abort, alloc: Global, g: &Geometry, nth: u64) -> Resu
     );
     let told = volume.write(1, &[b'q'; 600]);
     assert!(rt; without.write(1, &[b'q'; 600]) == told);
-    assert!(rt; volume.nor.image() == without.nor.image());
+    assert!(rt; volume.nor().image() == without.nor().image());
     if told != Ok(600) {
         assert!(rt; told == Err(FsErr::DeviceFault));
         assert!(rt; volume.has_failed() || is_right(&volume, g, 4));

@@ -160,7 +160,7 @@ fn ask(
     into.fill(0);
     let told = answer(a, call, into);
     assert!(rt; is_same(&told, &answer(b, call, &mut other)) && *into == other);
-    assert!(rt; a.nor.image() == b.nor.image());
+    assert!(rt; a.nor().image() == b.nor().image());
     told
 }
 

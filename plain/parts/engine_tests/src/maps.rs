@@ -280,6 +280,7 @@ fn a_map_tells_where_pages_were_moved_with(rt: HostRuntime) -> Result<(), Fail> 
         Step::Renames(b"ba", b"b", Ok(())),
         Step::ReadsMap(0, Ok(2), &[b'x', 0]),
         // a check gives the map up; the bytes stay lent
+        Step::Mounts,
         Step::Checks,
         Step::HasNumbers(&[]),
         Step::ReadsMap(0, Err(MapErr::NoMap), &[7]),

@@ -92,7 +92,7 @@ fn a_volume_of_one_free_block_is_read_with(rt: HostRuntime) -> Result<(), Fail> 
     assert!(rt; bytes == [0, 0, 0, 0]);
     assert!(rt; volume.rename(b"ba", b"b") == Err(FsErr::Tight));
     assert!(rt; volume.gc() == Ok(()));
-    assert!(rt; volume.nor.image() == image.as_slice());
+    assert!(rt; volume.nor().image() == image.as_slice());
     assert!(rt; volume.remove(b"ba") == Ok(()));
     Ok(())
 }

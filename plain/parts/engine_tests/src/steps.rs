@@ -164,7 +164,7 @@ fn is_so_open(volume: &mut Volume<'_, MemBoard>, step: &Step<'_>) -> bool {
 
 /// Has the nth read of a volume's chip from now on fail, and for 0 none.
 pub(crate) fn fail_read(volume: &mut Volume<'_, MemBoard>, nth: u64) {
-    volume.nor.fail_nth(CallKind::Read, nth);
+    volume.nor_mut().fail_nth(CallKind::Read, nth);
 }
 
 // The same, as a step that is always as it says.
@@ -205,8 +205,8 @@ fn is_so(volume: &mut Volume<'_, MemBoard>, step: &Step<'_>) -> bool {
         Step::Collects(told) => volume.gc() == told,
         Step::Settles(told) => volume.settle() == told,
         Step::Scrubs(limit, told) => scrubs(volume, limit, told),
-        Step::HasErases(counts) => has_erases(volume.nor.image(), counts),
-        Step::Holds(image) => volume.nor.image() == image,
+        Step::HasErases(counts) => has_erases(volume.nor().image(), counts),
+        Step::Holds(image) => volume.nor().image() == image,
         Step::HasFailed(told) => volume.has_failed() == told,
         Step::HasCounted => volume.counted,
         _ => is_so_mapped(volume, step),
