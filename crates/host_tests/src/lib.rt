@@ -2,4 +2,6 @@
 #![tactic(auto)]
 
 #[cfg(test)]
+mod chips;
+#[cfg(test)]
 mod hosts;
