@@ -172,8 +172,8 @@ def lines(data):
         line += f" spoiled {spoiled}" if spoiled > 1 else ""
         doubled = volume.doubled(live)
         line += f" doubled {doubled}" if doubled > 1 else ""
-        found.append((-most, damaged, place, line))
-    return [line for _, _, _, line in sorted(found)]
+        found.append((-most, max(spoiled, 1), damaged, place, line))
+    return [found_line for *_, found_line in sorted(found)]
 
 
 def main():

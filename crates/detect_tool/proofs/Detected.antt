@@ -29,7 +29,7 @@ module _ (file : List ℕ) (found : List Found) (n : ℕ) (room : n ≤ length f
   module _ (list : List Found) (r : IsRanking (take n found) list) where
     has : (p : ℕ) (g : Geometry) → IsFoundAt file p g → Any (λ f. f.place ≡ p) list
     has p g is =
-        let d : Found = record { place = p; volume = g; last_meta = 0; counts = record { whole = 0; damaged = 0 } } in
+        let d : Found = record { place = p; volume = g; last_meta = 0; counts = record { whole = 0; damaged = 0 }; spoiled = 0; doubled = 0 } in
         let w = are.all d p g is in
         let x = slice_index_or found w.0 d in
         let low : w.0 < length (take n found) = omega (arith, w.1, all_of) in

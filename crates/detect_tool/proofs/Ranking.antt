@@ -1,12 +1,12 @@
 -- Candidates put in order, and read in it one after the other.
-use Rattle.std.proofs.Common.{◌≡◌, ◌==◌, ℕ, zero, suc, ◌<◌, ◌≤◌, ◌⊎◌, ◌&&◌, ◌||◌, true, nat_lt, List, [], ◌∷◌, length, slice_index_or, All, AllPairs, HoldsAt, IsPermutation, Option, Some, None, inl, inr, refl, sym, ap, ◌∙◌, subst, arith, ⊎_elim}
+use Rattle.std.proofs.Common.{◌≡◌, ℕ, zero, suc, ◌<◌, ◌≤◌, ◌⊎◌, true, List, [], ◌∷◌, length, slice_index_or, All, AllPairs, HoldsAt, IsPermutation, Option, Some, None, refl, sym, ap, ◌∙◌, subst, arith, ⊎_elim}
 use Rattle.std.proofs.lemmas.Bool.{cases_lt}
 use Rattle.std.proofs.lemmas.List.{get_or_default}
 use Rattle.std.proofs.lemmas.List.Elements.{All-nil, All-cons, All-head, All-tail, All-weaker, Contains-get_or}
 use Rattle.std.proofs.lemmas.List.Sorted.{IsPermutation-refl, IsPermutation-cons, IsPermutation-sym, IsPermutation-trans, IsPermutation-middle, All-permutation, Contains-permutation}
 use Rattle.volume_rank.specs.declared.found.Found.{Found}
 use Rattle.volume_rank.specs.Order.{IsBefore, is_before, is_behind, FirstBehind}
-use Rattle.volume_rank.proofs.Orders.{before_is, is_tested, not_itself, before_then as tested_then}
+use Rattle.volume_rank.proofs.Orders.{before_is, is_tested, not_itself, before_then as tested_then, before_or}
 use Rattle.detect_tool.specs.Ranked.{IsRanking}
 
 before_then : (f g h : Found) → IsBefore f g → IsBefore g h → IsBefore f h
@@ -14,24 +14,6 @@ before_then f g h one two = before_is f h (tested_then f g h (is_tested f g one)
 
 not_both : (f g : Found) → IsBefore f g → IsBefore g f → ⊥
 not_both f g one two = not_itself f (is_tested f f (before_then f g f one two))
-
--- of two of other places one comes before the other
-before_or : (f g : Found) → f.place < g.place → IsBefore f g ⊎ IsBefore g f
-before_or f g less = ⊎_elim
-    (λ (more : g.counts.whole < f.counts.whole). inl (inl more))
-    (λ (le : f.counts.whole ≤ g.counts.whole). ⊎_elim
-    (λ (fewer : f.counts.whole < g.counts.whole). inr (inl fewer))
-    (λ (ge : g.counts.whole ≤ f.counts.whole).
-    let e : f.counts.whole ≡ g.counts.whole = omega (arith, le, ge) in
-    ⊎_elim
-    (λ (better : f.counts.damaged < g.counts.damaged). inl (inr (e, inl better)))
-    (λ (more : g.counts.damaged ≤ f.counts.damaged). ⊎_elim
-    (λ (worse : g.counts.damaged < f.counts.damaged). inr (inr (sym e, inl worse)))
-    (λ (few : f.counts.damaged ≤ g.counts.damaged). let e' : f.counts.damaged ≡ g.counts.damaged = omega (arith, more, few) in inl (inr (e, inr (e', less))))
-    (cases_lt g.counts.damaged f.counts.damaged))
-    (cases_lt f.counts.damaged g.counts.damaged))
-    (cases_lt f.counts.whole g.counts.whole))
-    (cases_lt g.counts.whole f.counts.whole)
 
 -- in order, from one to the next
 abbrev Ordered : List Found → Type 0

@@ -21,10 +21,11 @@ pub record IsFoundFor (file : List ℕ) (g : Geometry) (f : Found) : Type 0 wher
   pub first : byte_of f.place ≡ 0
   pub same : SameBut f.volume g
 
--- Its line tells as many whole files as the volume has, or more, and no damaged id; and no id is doubled.
+-- Its line tells as many whole files as the volume has, or more, and no damaged id; no block lacks its magic, and no id is doubled.
 pub record TellsFiles (file : List ℕ) (g : Geometry) (f : Found) : Type 0 where
   pub whole : length (table_of g file) ≤ f.counts.whole
   pub damaged : f.counts.damaged ≡ 0
+  pub spoiled : f.spoiled ≡ 0
   pub doubled : f.doubled ≡ 0
 
 -- Its line tells the volume's own number of meta bytes, and no range.

@@ -7,7 +7,7 @@ use Rattle.volume_rank.specs.Finds.{IsFound}
 use Rattle.volume_rank.specs.Order.{IsBefore}
 
 -- Each candidate of a file stands in the list once, with what it reads, best first: before others come those with more whole files,
--- then those with fewer damaged ids, then those of lower places.
+-- then those of which fewer blocks lack their magic (one may), then those with fewer damaged ids, then those of lower places.
 pub record AreRanked (file : List ℕ) (list : List Found) : Type 0 where
   pub each : All (IsFound file) list
   pub order : AllPairs IsBefore list

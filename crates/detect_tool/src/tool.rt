@@ -71,11 +71,12 @@ fn detect_in<B: Board>(board: &mut B, memory: &mut Memory<'_>) -> u8
 /// Says which volumes a chip may hold, by the magics of their blocks, and answers the status. The words are `detect CHIP`; CHIP is any
 /// word that isn't empty, which isn't read here. For each candidate there is a line
 /// `at OFFSET page P block B blocks N meta M magic KIND files F damaged D`, the best first: before others come those with more whole
-/// files, then those with fewer damaged ids, then those that begin earlier. OFFSET is a multiple of 4,096 bytes; M is the number of meta
-/// bytes by which most files are whole, or `M1-M2` where as many are by each number from M1 to M2. Behind D stands ` spoiled S` where S
-/// blocks, two or more, lack their magic, and ` doubled I` where I ids, two or more, have more than one live header page. The chip has any
-/// size and any erase unit; it is read once, whole, and never written. Where there is no candidate a closing line says so, and the status
-/// is 3. It takes no memory but what is lent.
+/// files, then those of which fewer blocks lack their magic (one may, as in a volume that mounts), then those with fewer damaged ids,
+/// then those that begin earlier. OFFSET is a multiple of 4,096 bytes; M is the number of meta bytes by which most files are whole, or
+/// `M1-M2` where as many are by each number from M1 to M2. Behind D stands ` spoiled S` where S blocks, two or more, lack their magic,
+/// and ` doubled I` where I ids, two or more, have more than one live header page. The chip has any size and any erase unit; it is read
+/// once, whole, and never written. Where there is no candidate a closing line says so, and the status is 3. It takes no memory but what
+/// is lent.
 pub fn detect_tool<B: Board>(words: &[String], board: &mut B, memory: &mut Memory<'_>) -> u8
     // What is refused before the chip is read: its closing line is said, and nothing else happens.
     ensures refused { RefusesIf B.NorState board.old board.new (refusal_of (map string_bytes words.now) (B.size board.old) (lengths_of memory.old)) result }

@@ -1,13 +1,13 @@
 -- What the flat table answers while a folder's files are put.
-use Rattle.std.proofs.Common.{◌≡◌, ℕ, zero, suc, ◌+◌, ◌<◌, ◌≤◌, List, [], ◌∷◌, ◌++◌, length, take, drop, Bool, true, false, not, ◌==◌, Option, Some, None, refl, sym, ◌∙◌, ap, arith, subst, ⊎_elim}
-use Rattle.std.specs.Prelude.{find, min, replicate, unwrap_or}
+use Rattle.std.proofs.Common.{◌≡◌, ℕ, zero, suc, ◌+◌, ◌<◌, ◌≤◌, List, [], ◌∷◌, ◌++◌, length, take, drop, Bool, true, false, not, ◌==◌, Option, Some, refl, sym, ◌∙◌, ap, arith, subst, ⊎_elim}
+use Rattle.std.specs.Prelude.{find, min, unwrap_or}
 use Rattle.std.specs.List.{range_with_len}
 use Rattle.std.proofs.lemmas.Bool.{cases_Bool, eqb-false, ne_eqb}
 use Rattle.std.proofs.lemmas.List.{take_all, drop_all, append-nil, length-append}
 use Rattle.geometry.specs.declared.geometry.Geometry.{Geometry}
-use Rattle.table_model.specs.Table.{File, Open, has_id, file_of, least_id, put_file}
+use Rattle.table_model.specs.Table.{File, has_id, file_of, least_id, put_file}
 use Rattle.table_model.specs.Room.{has_room}
-use Rattle.table_model.specs.Descriptors.{open_at, put_at, lowest_closed}
+use Rattle.table_model.specs.Descriptors.{open_at}
 use Rattle.table_model.specs.Files.{written, created}
 use Rattle.table_model.specs.Calls.{answer_write, answer_close}
 use Rattle.table_model.specs.Opening.{answer_open}

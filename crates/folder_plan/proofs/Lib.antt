@@ -1,5 +1,6 @@
 pub mod Keeping
 pub mod Naming
+pub mod Rising
 pub mod Summing
 pub mod Deciding
 pub mod Tabling

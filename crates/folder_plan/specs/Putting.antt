@@ -1,7 +1,7 @@
 -- The flat table while the files of a folder are put onto a volume.
 use Rattle.std.specs.Prelude.{ℕ, ◌≡◌, ◌+◌, ◌<◌, true, List, [], ◌∷◌, ◌++◌, length, None}
 use Rattle.geometry.specs.declared.geometry.Geometry.{Geometry}
-use Rattle.table_model.specs.Table.{File, Open, State, file_named}
+use Rattle.table_model.specs.Table.{Open, State, file_named}
 use Rattle.table_model.specs.Names.{name_refusal}
 use Rattle.table_model.specs.Room.{has_room}
 use Rattle.table_model.specs.Files.{with_open}

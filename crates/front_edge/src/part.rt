@@ -2,7 +2,7 @@
 ghost use Rattle.std.specs.Prelude.{[], ◌+◌, ◌<◌, ◌≤◌, ◌^◌, IfSome};
 
 use chip_row::{Chip, ChipState};
-use host_edge::{Access, FileChip, Trouble};
+use host_edge::{Access, FileChip, HeldFile, Trouble};
 use nor_core::{Failed, Mark};
 use nor_memory::MemChip;
 use std::fs::File;
@@ -25,17 +25,28 @@ pub struct PartChip {
 pub trait HostChip: Chip {
     /// What failed first at the host, if anything did.
     fn trouble(&self) -> Option<&Trouble>;
+
+    /// Ends the use of the chip: what was written is brought onto the host's medium, and a file must not have become shorter than it was.
+    fn finish(&self) -> Result<(), Trouble>;
 }
 
 impl HostChip for PartChip {
     fn trouble(&self) -> Option<&Trouble> {
         self.chip.trouble()
     }
+
+    fn finish(&self) -> Result<(), Trouble> {
+        self.chip.finish()
+    }
 }
 
 impl HostChip for MemChip {
     fn trouble(&self) -> Option<&Trouble> {
         None
+    }
+
+    fn finish(&self) -> Result<(), Trouble> {
+        Ok(())
     }
 }
 
@@ -46,6 +57,15 @@ fn common_power(one: u32, other: u32) -> u32 {
         return 1;
     }
     both & both.wrapping_neg()
+}
+
+// The erase units of the whole file, where those of a part that begins there have so many bytes.
+fn step_of(first: u32, unit: u32) -> u32 {
+    if first == 0 {
+        unit
+    } else {
+        common_power(first, unit)
+    }
 }
 
 impl PartChip {
@@ -59,12 +79,19 @@ impl PartChip {
         size: u32,
         unit: u32,
     ) -> PartChip {
-        let step = if first == 0 {
-            unit
-        } else {
-            common_power(first, unit)
-        };
-        let chip = FileChip::new(rt, path, access, first.saturating_add(size), step);
+        let end = first.saturating_add(size);
+        let chip = FileChip::new(rt, path, access, end, step_of(first, unit));
+        PartChip::on(chip, first, size, unit)
+    }
+
+    /// The same of a file that is held: another handle of the same open file, under the same lock.
+    pub fn over(held: &HeldFile, first: u32, size: u32, unit: u32) -> PartChip {
+        let chip = held.chip(first.saturating_add(size), step_of(first, unit));
+        PartChip::on(chip, first, size, unit)
+    }
+
+    // The part of a chip.
+    fn on(chip: FileChip, first: u32, size: u32, unit: u32) -> PartChip {
         PartChip {
             chip,
             first,

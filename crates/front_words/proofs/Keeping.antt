@@ -1,6 +1,7 @@
 -- The numbers that a line gives are those of its volume.
-use Rattle.std.proofs.Common.{◌≡◌, ℕ, ◌-◌, ◌*◌, ◌/◌, ◌%◌, ◌<◌, ◌≤◌, List, [], ◌∷◌, Bool, true, false, cond, eqb, leb, refl, sym, ap, ◌∙◌, arith, ⊎_elim, subst, Option, Some, None, Result, Ok, Err}
-use Rattle.std.specs.Prelude.{filter, unwrap_or, option_map, is_none, not, ◌&&◌, ◌||◌}
+use Rattle.std.proofs.Common.{◌≡◌, ℕ, ◌-◌, ◌*◌, ◌/◌, ◌%◌, ◌<◌, ◌≤◌, List, [], ◌∷◌, Bool, true, false, cond, eqb, leb, refl, ap, arith, ⊎_elim, subst, Option, Some, None, Result, Ok, Err}
+use Rattle.std.specs.Prelude.{filter, unwrap_or, is_none, not, nat_lt, nat_le, ◌&&◌, ◌||◌}
+use Rattle.std.specs.List.{list_all}
 use Rattle.std.proofs.lemmas.Bool.{false≢true, cases_Bool}
 use Rattle.std.proofs.lemmas.Grind.{common_steps}
 use Rattle.geometry.specs.declared.magic.MagicKind.{MagicKind}
@@ -9,9 +10,9 @@ use Rattle.front_words.specs.declared.asked.Asked.{Asked}
 use Rattle.front_words.specs.declared.settling.Candidate.{Candidate}
 use Rattle.front_words.specs.declared.settling.Volume.{Volume}
 use Rattle.front_words.specs.declared.settling.Unsettled.{Unsettled}
-use Rattle.front_words.specs.declared.settling.Unsettled.TheVariants.{NoSize, Uneven, Several, AnyMeta, TooFar}
+use Rattle.front_words.specs.declared.settling.Unsettled.TheVariants.{NoSize, Uneven, Several, AnyMeta, Spoiled, Doubled, Harmed, TooFar}
 use Rattle.front_words.specs.Asking.{changes}
-use Rattle.front_words.specs.Settling.{first_of, preset_of, known_page, known_block, known_meta, known_magic, start_of, bytes_of, sized, fits, same_magic, fits_magic, agrees, found_volume, with_meta, as_good, chosen, agreeing, settled_by, end_of, reached, settled, needs_found, IsAsGiven, KeepsNumbers, meta_by}
+use Rattle.front_words.specs.Settling.{no_rival, writes, is_doubled, is_harmed, unless_harmed, none_sure, alone_in, sure_by, sure, chosen_by, told_volume, first_of, known_page, known_block, known_meta, known_magic, start_of, bytes_of, sized, fits, fits_magic, agrees, found_volume, with_meta, as_good, chosen, agreeing, settled_by, end_of, reached, settled, needs_found, IsAsGiven, KeepsNumbers}
 
 both : (a b : Bool) → (a && b) ≡ true → (a ≡ true) × (b ≡ true)
 both true true h = (refl, refl)
@@ -86,17 +87,6 @@ sized_keeps asked length page block meta magic v p b m k h =
       size = as_is asked.size (bytes_of asked length) (v.block * v.blocks) is.bytes_are (given_or asked.size (length - start_of asked));
     }
 
--- the first that passes a filter passes
-filter_first : (p : Candidate → Bool) (xs : List Candidate) (c : Candidate) (cs : List Candidate) → filter p xs ≡ c ∷ cs → p c ≡ true
-filter_first p [] c cs h = cc
-filter_first p (x ∷ xs) c cs h = ⊎_elim
-    (λ (yes : p x ≡ true). let same : x ≡ c = head (rw yes at h) in subst (λ (y : Candidate). p y ≡ true) same yes)
-    (λ (no : p x ≡ false). filter_first p xs c cs (rw no at h))
-    (cases_Bool (p x))
-  where
-    head : x ∷ filter p xs ≡ c ∷ cs → x ≡ c
-    head h = cc
-
 found_keeps : (asked : Asked) (c : Candidate) (meta : ℕ) → agrees asked c ≡ true → IsAsGiven asked.meta meta → KeepsNumbers asked (found_volume c meta)
 found_keeps asked c meta fine given =
     let at = both (fits asked.at c.at) (fits (known_page asked) c.page && (fits (known_block asked) c.block && (fits asked.size (c.block * c.blocks) && fits_magic (known_magic asked) c.magic))) fine in
@@ -124,24 +114,69 @@ meta_keeps asked c None v is fine h = go (changes asked.word && not (eqb c.first
         let same : found_volume c c.first_meta ≡ v = cc in
         subst (λ (u : Volume). KeepsNumbers asked u) same (found_keeps asked c c.first_meta fine (given_none asked.meta _ c.first_meta is))
 
-chosen_keeps : (asked : Asked) (all : List Candidate) (v : Volume) → ((c : Candidate) (cs : List Candidate) → all ≡ c ∷ cs → agrees asked c ≡ true) → chosen asked all ≡ Ok v → KeepsNumbers asked v
+-- each of those that agree does
+filter_all : (t : Candidate → Bool) (xs : List Candidate) → list_all t (filter t xs) ≡ true
+filter_all t [] = refl
+filter_all t (x ∷ xs) = ⊎_elim (λ (yes : t x ≡ true). rw yes (rw yes (filter_all t xs))) (λ (no : t x ≡ false). rw no (filter_all t xs)) (cases_Bool (t x))
+
+harmed_keeps : (asked : Asked) (c : Candidate) (v : Volume) → agrees asked c ≡ true → unless_harmed asked c ≡ Ok v → KeepsNumbers asked v
+harmed_keeps asked c v fine h = go (nat_le 2 c.spoiled) (is_doubled asked c) (is_harmed asked c) h
+  where
+    go : (torn two harmed : Bool) → cond torn (Err (Spoiled c.spoiled)) (cond two (Err (Doubled c.doubled)) (cond harmed (Err (Harmed c.damaged)) (with_meta asked c (known_meta asked)))) ≡ Ok v → KeepsNumbers asked v
+    go true two harmed h = cc
+    go false true harmed h = cc
+    go false false true h = cc
+    go false false false h = meta_keeps asked c (known_meta asked) v refl fine h
+
+none_keeps : (asked : Asked) (all : List Candidate) (v : Volume) → none_sure all ≡ Ok v → KeepsNumbers asked v
+none_keeps asked [] v h = cc
+none_keeps asked (c ∷ rest) v h = cc
+
+-- one of those that agree does
+alone_agrees : (asked : Asked) (all left : List Candidate) (c : Candidate) → list_all (agrees asked) left ≡ true → alone_in all left ≡ Some c → agrees asked c ≡ true
+alone_agrees asked all [] c fine h = cc
+alone_agrees asked all (d ∷ rest) c fine h =
+    let parts = both (agrees asked d) (list_all (agrees asked) rest) fine in
+    go parts.0 (λ later. alone_agrees asked all rest c parts.1 later) (list_all (no_rival d) all) h
+  where
+    go : agrees asked d ≡ true → (alone_in all rest ≡ Some c → agrees asked c ≡ true) → (b : Bool) → cond b (Some d) (alone_in all rest) ≡ Some c → agrees asked c ≡ true
+    go this later true e = let same : d ≡ c = cc in subst (λ (x : Candidate). agrees asked x ≡ true) same this
+    go this later false e = later e
+
+sure_keeps : (asked : Asked) (all : List Candidate) (v : Volume) (alone : Option Candidate) → ((c : Candidate) → alone ≡ Some c → agrees asked c ≡ true) → sure_by asked all alone ≡ Ok v → KeepsNumbers asked v
+sure_keeps asked all v None fine h = none_keeps asked all v h
+sure_keeps asked all v (Some c) fine h = harmed_keeps asked c v (fine c refl) h
+
+choice_keeps : (asked : Asked) (v : Volume) (alone : Option Candidate) → ((c : Candidate) → alone ≡ Some c → agrees asked c ≡ true) → chosen_by asked alone ≡ Ok v → KeepsNumbers asked v
+choice_keeps asked v None fine h = cc
+choice_keeps asked v (Some c) fine h = meta_keeps asked c (known_meta asked) v refl (fine c refl) h
+
+chosen_keeps : (asked : Asked) (all : List Candidate) (v : Volume) → list_all (agrees asked) all ≡ true → chosen asked all ≡ Ok v → KeepsNumbers asked v
 chosen_keeps asked [] v fine h = cc
-chosen_keeps asked (c ∷ []) v fine h = meta_keeps asked c (known_meta asked) v refl (fine c [] refl) h
+chosen_keeps asked (c ∷ []) v fine h = meta_keeps asked c (known_meta asked) v refl (both (agrees asked c) (list_all (agrees asked) []) fine).0 h
 chosen_keeps asked (c ∷ d ∷ rest) v fine h = go (as_good c d) h
   where
-    go : (b : Bool) → cond b (Err Several) (with_meta asked c (known_meta asked)) ≡ Ok v → KeepsNumbers asked v
-    go true h = cc
-    go false h = meta_keeps asked c (known_meta asked) v refl (fine c (d ∷ rest) refl) h
+    go : (b : Bool) → cond b (chosen_by asked (alone_in (c ∷ d ∷ rest) (c ∷ d ∷ rest))) (with_meta asked c (known_meta asked)) ≡ Ok v → KeepsNumbers asked v
+    go true h = choice_keeps asked v (alone_in (c ∷ d ∷ rest) (c ∷ d ∷ rest)) (λ e is. alone_agrees asked (c ∷ d ∷ rest) (c ∷ d ∷ rest) e fine is) h
+    go false h = meta_keeps asked c (known_meta asked) v refl (both (agrees asked c) (list_all (agrees asked) (d ∷ rest)) fine).0 h
+
+told_keeps : (asked : Asked) (found : List Candidate) (v : Volume) → told_volume asked (agreeing asked found) ≡ Ok v → KeepsNumbers asked v
+told_keeps asked found v h = go (writes asked.word asked.repairs) h
+  where
+    go : (b : Bool) → cond b (sure asked (agreeing asked found)) (chosen asked (agreeing asked found)) ≡ Ok v → KeepsNumbers asked v
+    go true h = sure_keeps asked (agreeing asked found) v (alone_in (agreeing asked found) (agreeing asked found))
+        (λ c is. alone_agrees asked (agreeing asked found) (agreeing asked found) c (filter_all (agrees asked) found) is) h
+    go false h = chosen_keeps asked (agreeing asked found) v (filter_all (agrees asked) found) h
 
 all_keep : (asked : Asked) (length : ℕ) (found : List Candidate) (v : Volume) (page block meta : Option ℕ) (magic : Option MagicKind) → known_page asked ≡ page → known_block asked ≡ block → known_meta asked ≡ meta → known_magic asked ≡ magic → settled_by asked length found page block meta magic ≡ Ok v → KeepsNumbers asked v
 all_keep asked length found v (Some page) (Some block) (Some meta) (Some magic) p b m k h = sized_keeps asked length page block meta magic v p b m k h
-all_keep asked length found v (Some page) (Some block) (Some meta) None p b m k h = chosen_keeps asked (agreeing asked found) v (filter_first (agrees asked) found) h
-all_keep asked length found v (Some page) (Some block) None magic p b m k h = chosen_keeps asked (agreeing asked found) v (filter_first (agrees asked) found) h
-all_keep asked length found v (Some page) None meta magic p b m k h = chosen_keeps asked (agreeing asked found) v (filter_first (agrees asked) found) h
-all_keep asked length found v None block meta magic p b m k h = chosen_keeps asked (agreeing asked found) v (filter_first (agrees asked) found) h
+all_keep asked length found v (Some page) (Some block) (Some meta) None p b m k h = told_keeps asked found v h
+all_keep asked length found v (Some page) (Some block) None magic p b m k h = told_keeps asked found v h
+all_keep asked length found v (Some page) None meta magic p b m k h = told_keeps asked found v h
+all_keep asked length found v None block meta magic p b m k h = told_keeps asked found v h
 
 -- what is reached was settled, and ends in reach
-reached_is : (r : Result Volume Unsettled) (v : Volume) → reached r ≡ Ok v → (r ≡ Ok v) × (end_of v ≤ 4294967295)
+pub reached_is : (r : Result Volume Unsettled) (v : Volume) → reached r ≡ Ok v → (r ≡ Ok v) × (end_of v ≤ 4294967295)
 reached_is (Err why) v h = cc
 reached_is (Ok u) v h = let is = go (leb (end_of u) 4294967295) refl h in (ap (λ (w : Volume). Ok w) is.0, is.1)
   where

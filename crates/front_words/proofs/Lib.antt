@@ -4,3 +4,5 @@ pub mod Orders
 pub mod Refusing
 pub mod Keeping
 pub mod Working
+pub mod Rivals
+mod Written

@@ -7,7 +7,7 @@ use Rattle.std.proofs.lemmas.Grind.{common_steps}
 use Rattle.std.proofs.lemmas.List.{drop_more}
 use Rattle.front_words.specs.declared.word.Word.{Word}
 use Rattle.front_words.specs.declared.option.Slot.{Slot}
-use Rattle.front_words.specs.declared.option.Slot.TheVariants.{Page, Block, Size, Meta, Magic, At, Preset, DryRun, Repair, Svg, Force, Create, Unpack, List as Lists, Visualize, AllFiles, Debug, UseMagic, NameLength, NoMagic, BigEndian, Aligned, Links, NoValue, Unknown}
+use Rattle.front_words.specs.declared.option.Slot.TheVariants.{Page, Block, Size, Meta, Magic, At, Preset, DryRun, Repair, Svg, Force, RawNames, Create, Unpack, List as Lists, Visualize, AllFiles, Debug, UseMagic, NameLength, NoMagic, BigEndian, Aligned, Links, NoValue, Unknown}
 use Rattle.front_words.specs.declared.asked.Found.{Found}
 use Rattle.front_words.specs.declared.asked.Refusal.{Refusal}
 use Rattle.front_words.specs.declared.asked.Refusal.TheVariants.{NotTaken, Twice as GivenTwice}
@@ -49,6 +49,7 @@ all_there DryRun = refl
 all_there Repair = refl
 all_there Svg = refl
 all_there Force = refl
+all_there RawNames = refl
 all_there Create = refl
 all_there Unpack = refl
 all_there Lists = refl

@@ -7,7 +7,7 @@ use Rattle.front_words.specs.declared.word.Word.TheVariants.{Ls, Pack, Gen, Unpa
 use Rattle.front_words.specs.declared.word.Preset.{Preset}
 use Rattle.front_words.specs.declared.option.Slot.{Slot}
 use Rattle.front_words.specs.declared.option.Slot.TheVariants.{Page as PageSlot, Block as BlockSlot, Size as SizeSlot, Meta as MetaSlot, Magic as MagicSlot}
-use Rattle.front_words.specs.declared.option.Slot.TheVariants.{At as AtSlot, Preset as PresetSlot, DryRun, Repair, Svg, Force, Create, Unpack as UnpackSlot}
+use Rattle.front_words.specs.declared.option.Slot.TheVariants.{At as AtSlot, Preset as PresetSlot, DryRun, Repair, Svg, Force, RawNames, Create, Unpack as UnpackSlot}
 use Rattle.front_words.specs.declared.option.Slot.TheVariants.{List as ListSlot, Visualize, AllFiles, Debug, UseMagic, NameLength, NoMagic, BigEndian, Aligned}
 use Rattle.front_words.specs.declared.option.Slot.TheVariants.{Links, NoValue, Unknown}
 use Rattle.front_words.specs.declared.asked.Asked.{Asked}
@@ -153,6 +153,10 @@ abbrev pub is_picture : Word → Bool
 is_picture Picture = true
 is_picture _ = false
 
+abbrev pub is_unpack : Word → Bool
+is_unpack Unpack = true
+is_unpack _ = false
+
 -- an option means something for a word
 abbrev pub means : Word → Slot → Bool
 means word SizeSlot = not (is_sized word)
@@ -160,6 +164,7 @@ means word AtSlot = not (makes word)
 means word Repair = is_fsck word
 means word Svg = is_picture word
 means word Force = is_guarded word
+means word RawNames = is_unpack word
 means word _ = true
 
 -- what is wrong with what a line gives for a slot
@@ -174,7 +179,7 @@ fault_of word slot (Once text) =
 
 -- all slots
 abbrev pub all_slots : List Slot
-all_slots = PageSlot ∷ BlockSlot ∷ SizeSlot ∷ MetaSlot ∷ MagicSlot ∷ AtSlot ∷ PresetSlot ∷ DryRun ∷ Repair ∷ Svg ∷ Force ∷ Create ∷ UnpackSlot ∷ ListSlot
+all_slots = PageSlot ∷ BlockSlot ∷ SizeSlot ∷ MetaSlot ∷ MagicSlot ∷ AtSlot ∷ PresetSlot ∷ DryRun ∷ Repair ∷ Svg ∷ Force ∷ RawNames ∷ Create ∷ UnpackSlot ∷ ListSlot
     ∷ Visualize ∷ AllFiles ∷ Debug ∷ UseMagic ∷ NameLength ∷ NoMagic ∷ BigEndian ∷ Aligned ∷ Links ∷ NoValue ∷ Unknown ∷ []
 
 -- the first of these faults
@@ -241,6 +246,7 @@ filled found gives ws = record {
   repairs = is_something (gives Repair);
   is_svg = is_something (gives Svg);
   is_forced = is_something (gives Force);
+  raw_names = is_something (gives RawNames);
 }
 
 -- what a line asks for, by its first fault

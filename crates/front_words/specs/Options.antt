@@ -3,7 +3,7 @@ use Rattle.std.specs.Prelude.{List, ℕ, Bool, ◌||◌, Option, Some, None, cod
 use Rattle.std.specs.Option.{option_or}
 use Rattle.call_script.specs.Lines.{is_text}
 use Rattle.front_words.specs.declared.option.Slot.{Slot}
-use Rattle.front_words.specs.declared.option.Slot.TheVariants.{Page, Block, Size, Meta, Magic, At, Preset, DryRun, Repair, Svg, Force, Create, Unpack}
+use Rattle.front_words.specs.declared.option.Slot.TheVariants.{Page, Block, Size, Meta, Magic, At, Preset, DryRun, Repair, Svg, Force, RawNames, Create, Unpack}
 use Rattle.front_words.specs.declared.option.Slot.TheVariants.{List as Lists, Visualize, AllFiles, Debug, UseMagic, NameLength, NoMagic, BigEndian, Aligned}
 use Rattle.front_words.specs.declared.option.Slot.TheVariants.{Links, NoValue, Unknown}
 
@@ -34,6 +34,7 @@ rank Aligned = 21
 rank Links = 22
 rank NoValue = 23
 rank Unknown = 24
+rank RawNames = 25
 
 -- a word is one of two texts
 abbrev pub is_either : List ℕ → List ℕ → List ℕ → Bool
@@ -90,9 +91,13 @@ gen_switched name =
     else if is_text name (codes "--follow-symlinks") then Some Links
     else None
 
+-- what an option without a value gives that isn't among the first ones
+abbrev pub further_switched : List ℕ → Option Slot
+further_switched name = if is_text name (codes "--raw-names") then Some RawNames else gen_switched name
+
 -- what an option without a value gives
 abbrev pub switched : List ℕ → Option Slot
-switched name = option_or (plain_switched name) (gen_switched name)
+switched name = option_or (plain_switched name) (further_switched name)
 
 -- the value that an option without one stands for
 unfoldable pub text_of : List ℕ → List ℕ

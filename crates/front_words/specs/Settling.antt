@@ -1,7 +1,8 @@
 -- The numbers of the volume that a line means.
-use Rattle.std.specs.Prelude.{◌≡◌, ℕ, ◌+◌, ◌-◌, ◌*◌, ◌/◌, ◌%◌, List, [], ◌∷◌, filter, Bool, true, false, not, Option, Some, None, is_none, option_map}
-use Rattle.std.specs.Prelude.{unwrap_or, Result, Ok, Err, ◌==◌, ◌&&◌, ◌||◌, nat_le, if◌then◌else◌}
+use Rattle.std.specs.Prelude.{◌≡◌, ℕ, ◌+◌, ◌-◌, ◌*◌, ◌/◌, ◌%◌, ◌<◌, List, Contains, [], ◌∷◌, filter, Bool, true, false, not, Option, Some, None, is_none, option_map}
+use Rattle.std.specs.Prelude.{unwrap_or, Result, Ok, Err, ◌==◌, ◌&&◌, ◌||◌, nat_le, nat_lt, if◌then◌else◌}
 use Rattle.geometry.specs.declared.magic.MagicKind.{MagicKind}
+use Rattle.std.specs.List.{list_all}
 use Rattle.geometry.specs.declared.magic.MagicKind.TheVariants.{Plain, Length}
 use Rattle.front_words.specs.declared.word.Preset.{Preset}
 use Rattle.front_words.specs.declared.word.Preset.TheVariants.{EspIdf, ArduinoEsp32, Mkspiffs}
@@ -9,7 +10,9 @@ use Rattle.front_words.specs.declared.asked.Asked.{Asked}
 use Rattle.front_words.specs.declared.settling.Candidate.{Candidate}
 use Rattle.front_words.specs.declared.settling.Volume.{Volume}
 use Rattle.front_words.specs.declared.settling.Unsettled.{Unsettled}
-use Rattle.front_words.specs.declared.settling.Unsettled.TheVariants.{NoSize, Uneven, NoneFound, Several, AnyMeta, TooFar}
+use Rattle.front_words.specs.declared.settling.Unsettled.TheVariants.{NoSize, Uneven, NoneFound, Several, AnyMeta, Spoiled, Doubled, Harmed, TooFar}
+use Rattle.front_words.specs.declared.word.Word.{Word}
+use Rattle.front_words.specs.declared.word.Word.TheVariants.{Fsck, Put, Rm, Mv}
 use Rattle.front_words.specs.Asking.{makes, changes}
 
 -- the first of two, where it is given
@@ -87,11 +90,82 @@ with_meta asked c None = if changes asked.word && not (c.first_meta == c.last_me
 abbrev pub as_good : Candidate → Candidate → Bool
 as_good c d = (c.whole == d.whole) && (c.damaged == d.damaged)
 
--- the best of several, the best first, if one is best
+-- two that were found are the same
+abbrev pub same_numbers : Candidate → Candidate → Bool
+same_numbers c d = (c.at == d.at) && (c.page == d.page) && (c.block == d.block) && (c.blocks == d.blocks) && fits_magic (Some c.magic) d.magic
+
+-- one lies within the bytes of another, and reads no more whole files
+abbrev pub lies_in : Candidate → Candidate → Bool
+lies_in d c = nat_le c.at d.at && nat_le (d.at + d.block * d.blocks) (c.at + c.block * c.blocks) && nat_le d.whole c.whole
+
+-- Another one leaves no doubt of `c`: it reads no whole file, and `c` does; or it lies within `c`, and that not within it.
+abbrev pub no_rival : (c d : Candidate) → Bool
+no_rival c d = same_numbers c d || (nat_lt 0 c.whole && (d.whole == 0)) || (lies_in d c && not (lies_in c d))
+
+-- a line writes to the image: a check only where it is to mend it
+abbrev pub writes : Word → (repairs : Bool) → Bool
+writes Put repairs = true
+writes Rm repairs = true
+writes Mv repairs = true
+writes Fsck repairs = repairs
+writes _ repairs = false
+
+-- a word changes files, and removes the damaged ones before; a check is there to remove them, and tells them itself
+abbrev pub edits : Word → Bool
+edits Put = true
+edits Rm = true
+edits Mv = true
+edits _ = false
+
+-- Two or more ids have two live header pages, and nothing says how many bytes the volume has: two may stand end to end.
+abbrev pub is_doubled : Asked → Candidate → Bool
+is_doubled asked c = is_none asked.size && nat_le 2 c.doubled
+
+-- ids are damaged, and nothing says that they may be removed
+abbrev pub is_harmed : Asked → Candidate → Bool
+is_harmed asked c = (edits asked.word && not asked.is_forced) && nat_lt 0 c.damaged
+
+-- one that a line would change: not where two or more of its blocks lack their magic, nor where it may be two, nor while ids are damaged
+abbrev pub unless_harmed : Asked → Candidate → Result Volume Unsettled
+unless_harmed asked c =
+    if nat_le 2 c.spoiled then Err (Spoiled c.spoiled)
+    else if is_doubled asked c then Err (Doubled c.doubled)
+    else if is_harmed asked c then Err (Harmed c.damaged)
+    else with_meta asked c (known_meta asked)
+
+-- why none is sure
+abbrev pub none_sure : List Candidate → Result Volume Unsettled
+none_sure [] = Err NoneFound
+none_sure (c ∷ rest) = Err Several
+
+-- the first of some of which none of all leaves doubt
+abbrev pub alone_in : (all left : List Candidate) → Option Candidate
+alone_in all [] = None
+alone_in all (c ∷ rest) = if list_all (no_rival c) all then Some c else alone_in all rest
+
+-- the one of those that agree that a line may write to
+abbrev pub sure_by : Asked → List Candidate → Option Candidate → Result Volume Unsettled
+sure_by asked all None = none_sure all
+sure_by asked all (Some c) = unless_harmed asked c
+
+abbrev pub sure : Asked → List Candidate → Result Volume Unsettled
+sure asked all = sure_by asked all (alone_in all all)
+
+-- the one that is read where the best two read as much: that of which none leaves doubt
+abbrev pub chosen_by : Asked → Option Candidate → Result Volume Unsettled
+chosen_by asked None = Err Several
+chosen_by asked (Some c) = with_meta asked c (known_meta asked)
+
+-- the best of several, the best first
 abbrev pub chosen : Asked → List Candidate → Result Volume Unsettled
 chosen asked [] = Err NoneFound
 chosen asked (c ∷ []) = with_meta asked c (known_meta asked)
-chosen asked (c ∷ d ∷ rest) = if as_good c d then Err Several else with_meta asked c (known_meta asked)
+chosen asked (c ∷ d ∷ rest) =
+    if as_good c d then chosen_by asked (alone_in (c ∷ d ∷ rest) (c ∷ d ∷ rest)) else with_meta asked c (known_meta asked)
+
+-- the one that a line means: one that it writes to has to be sure
+abbrev pub told_volume : Asked → List Candidate → Result Volume Unsettled
+told_volume asked found = if writes asked.word asked.repairs then sure asked found else chosen asked found
 
 -- those that agree
 abbrev pub agreeing : Asked → List Candidate → List Candidate
@@ -100,10 +174,10 @@ agreeing asked found = filter (agrees asked) found
 -- by the numbers that are known, if all are, else by the volumes that were found in the file
 abbrev pub settled_by : Asked → (length : ℕ) → List Candidate → (page block meta : Option ℕ) → Option MagicKind → Result Volume Unsettled
 settled_by asked length found (Some page) (Some block) (Some meta) (Some magic) = sized asked (bytes_of asked length) page block meta magic
-settled_by asked length found (Some page) (Some block) (Some meta) None = chosen asked (agreeing asked found)
-settled_by asked length found (Some page) (Some block) None magic = chosen asked (agreeing asked found)
-settled_by asked length found (Some page) None meta magic = chosen asked (agreeing asked found)
-settled_by asked length found None block meta magic = chosen asked (agreeing asked found)
+settled_by asked length found (Some page) (Some block) (Some meta) None = told_volume asked (agreeing asked found)
+settled_by asked length found (Some page) (Some block) None magic = told_volume asked (agreeing asked found)
+settled_by asked length found (Some page) None meta magic = told_volume asked (agreeing asked found)
+settled_by asked length found None block meta magic = told_volume asked (agreeing asked found)
 
 -- the byte of the file behind the last one of a volume
 abbrev pub end_of : Volume → ℕ
@@ -136,3 +210,16 @@ pub record KeepsNumbers (asked : Asked) (v : Volume) : Type 0 where
   pub magic : IsAsGiven asked.magic v.magic
   pub at : IsAsGiven asked.at v.at
   pub size : IsAsGiven asked.size (v.block * v.blocks)
+
+-- Of all that were found and agree, no other leaves doubt of `c`; at most one of its blocks lacks its magic; fewer than two of its ids have two
+-- live header pages, or the size is given; no id is damaged, or that is no matter for the line; and the volume has its numbers.
+pub record IsSafe (asked : Asked) (all : List Candidate) (c : Candidate) (v : Volume) : Type 0 where
+  pub alone : list_all (no_rival c) all ≡ true
+  pub marked : c.spoiled < 2
+  pub apart : is_none asked.size ≡ true → c.doubled < 2
+  pub whole : edits asked.word ≡ true → asked.is_forced ≡ false → c.damaged ≡ 0
+  pub taken : v ≡ found_volume c v.meta
+
+-- a volume is one that a line may write to
+abbrev pub MayBeWritten : Asked → List Candidate → Volume → Type 0
+MayBeWritten asked all v = (c : Candidate) × Contains all c × IsSafe asked all c v

@@ -12,7 +12,7 @@ use crate::word::{Preset, Word, magic_named, preset_named, word_named};
 use geometry::MagicKind;
 
 /// All slots, in order.
-const SLOTS: [Slot; 25] = [
+const SLOTS: [Slot; 26] = [
     Slot::Page,
     Slot::Block,
     Slot::Size,
@@ -24,6 +24,7 @@ const SLOTS: [Slot; 25] = [
     Slot::Repair,
     Slot::Svg,
     Slot::Force,
+    Slot::RawNames,
     Slot::Create,
     Slot::Unpack,
     Slot::List,
@@ -69,6 +70,8 @@ pub struct Asked {
     pub is_svg: bool,
     /// Whether damaged files may be removed, whatever another META reads.
     pub is_forced: bool,
+    /// Whether names with control characters are taken as they are.
+    pub raw_names: bool,
 }
 
 /// Why a line of the front is refused.
@@ -189,6 +192,7 @@ fn has_meaning(word: Word, slot: Slot) -> bool
         Slot::At => !makes(word),
         Slot::Repair => matches!(word, Word::Fsck),
         Slot::Svg => matches!(word, Word::Picture),
+        Slot::RawNames => matches!(word, Word::Unpack),
         Slot::Force => matches!(
             word,
             Word::Fsck | Word::Put | Word::Rm | Word::Mv | Word::Df
@@ -378,6 +382,7 @@ fn fill(words: &[String], found: Found) -> Asked
         repairs: is_given(words, Slot::Repair),
         is_svg: is_given(words, Slot::Svg),
         is_forced: is_given(words, Slot::Force),
+        raw_names: is_given(words, Slot::RawNames),
     }
 }
 

@@ -1,8 +1,8 @@
-ghost use Rattle.std.specs.Prelude.{◌≡◌, ℕ, ◌<◌, ◌≤◌, List, ◌∷◌, ◌++◌, length, false, Ok, IsErr};
+ghost use Rattle.std.specs.Prelude.{◌≡◌, ℕ, ◌<◌, ◌≤◌, List, ◌∷◌, ◌++◌, length, true, false, Ok, IsErr};
 ghost use Rattle.front_words.specs.Tokens.{Part, parts, places, Twice};
 ghost use Rattle.front_words.specs.Pieces.{Piece, line, AreFree};
 ghost use Rattle.front_words.specs.Asking.{asked_by, in_slot};
-ghost use Rattle.front_words.specs.Settling.{settled, needs_found, end_of, KeepsNumbers};
+ghost use Rattle.front_words.specs.Settling.{settled, needs_found, end_of, KeepsNumbers, same_numbers, no_rival, agreeing, writes, MayBeWritten};
 ghost use Rattle.front_words.specs.Scripts.{working};
 ghost use Rattle.front_words.specs.declared.asked.Asked.{Asked};
 ghost use Rattle.front_words.specs.declared.option.Slot.{Slot};
@@ -28,6 +28,19 @@ pub fn an_option_twice_is_refused()
 /// Numbers that a line gives are those of the volume that it means. So a size that is no whole number of blocks is never rounded.
 pub fn given_numbers_are_kept()
     ensures { (asked : Asked) (length : ℕ) (found : List Candidate) (v : Volume) → settled asked length found ≡ Ok v → KeepsNumbers asked v }
+{}
+
+/// Of two volumes that were found and differ, at most one leaves no doubt of the other. So a line that would change its volume means at most one.
+pub fn a_changed_volume_is_one()
+    ensures { (c d : Candidate) → no_rival c d ≡ true → no_rival d c ≡ true → same_numbers c d ≡ true }
+{}
+
+/// A line that writes and doesn't give all numbers takes a volume that was found only where no other one leaves doubt of it, at most one of its
+/// blocks lacks its magic, it can't be two that stand end to end, or its size is given, and no file is damaged, or `--force` says that
+/// damaged ones may go. A check with `--repair` is there for damaged ones.
+pub fn a_written_volume_is_safe()
+    ensures { (asked : Asked) (length : ℕ) (found : List Candidate) (v : Volume) → writes asked.word asked.repairs ≡ true → needs_found asked ≡ true →
+        settled asked length found ≡ Ok v → MayBeWritten asked (agreeing asked found) v }
 {}
 
 /// Each byte of the volume that a line means is among the first 2^32 - 1 of the file, which are reached.

@@ -19,8 +19,9 @@ pub use amount::read_amount;
 pub use asked::{Asked, Refusal, read_line};
 pub use giving::{Given, first_given, given_for, place};
 pub use laws::{
-    an_option_twice_is_refused, given_numbers_are_kept, known_numbers_ask_for_no_look,
-    options_stand_in_any_order, volumes_are_in_reach, working_names_are_others,
+    a_changed_volume_is_one, a_written_volume_is_safe, an_option_twice_is_refused,
+    given_numbers_are_kept, known_numbers_ask_for_no_look, options_stand_in_any_order,
+    volumes_are_in_reach, working_names_are_others,
 };
 pub use line::{push_word, top_words};
 pub use naming::{folder_word, image_word};
@@ -30,6 +31,7 @@ pub use script::{
     remove_line, rename_line, write_line,
 };
 pub use settling::{
-    Candidate, Unsettled, Volume, known_block, known_meta, known_page, settle, wants_detect,
+    Candidate, Unsettled, Volume, choose_sure, known_block, known_meta, known_page, settle,
+    wants_detect,
 };
 pub use word::{Preset, Word, is_own};

@@ -1,5 +1,5 @@
 ghost use Rattle.std.specs.Prelude.{◌≡◌, Option};
-ghost use Rattle.front_words.specs.Options.{is_either as either, plain_valued, gen_valued, valued, plain_switched, gen_switched, switched, rank};
+ghost use Rattle.front_words.specs.Options.{is_either as either, plain_valued, gen_valued, valued, plain_switched, gen_switched, further_switched, switched, rank};
 ghost use Rattle.front_words.specs.Options.{text_of as text_for};
 
 use crate::word::is;
@@ -29,6 +29,8 @@ pub enum Slot {
     Svg,
     /// `--force`: damaged files may be removed, whatever another META reads.
     Force,
+    /// `--raw-names`: names with control characters are taken as they are.
+    RawNames,
     /// `-c`, `--create`, of mkspiffs: the folder that is packed.
     Create,
     /// `-u`, `--unpack`, of mkspiffs: the folder that is filled.
@@ -90,6 +92,7 @@ impl Slot {
             Slot::Links => 22,
             Slot::NoValue => 23,
             Slot::Unknown => 24,
+            Slot::RawNames => 25,
         }
     }
 }
@@ -205,13 +208,24 @@ fn gen_switched_slot(name: &[u8]) -> Option<Slot>
     }
 }
 
+// What an option without a value gives that isn't among the first ones.
+fn further_switched_slot(name: &[u8]) -> Option<Slot>
+    ensures { result ≡ further_switched name.now }
+{
+    if is(name, b"--raw-names") {
+        Some(Slot::RawNames)
+    } else {
+        gen_switched_slot(name)
+    }
+}
+
 /// What an option without a value gives.
 pub(crate) fn switched_slot(name: &[u8]) -> Option<Slot>
     ensures { result ≡ switched name.now }
 {
     match plain_switched_slot(name) {
         Some(slot) => Some(slot),
-        None => gen_switched_slot(name),
+        None => further_switched_slot(name),
     }
 }
 

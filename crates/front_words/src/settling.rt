@@ -1,11 +1,14 @@
-ghost use Rattle.std.specs.Prelude.{◌≡◌, ◌∷◌, [], Ok, MatchOption, option_map};
+ghost use Rattle.std.specs.Prelude.{◌≡◌, ◌+◌, ◌*◌, ◌∷◌, [], Ok, MatchOption, option_map};
+ghost use Rattle.std.specs.List.{list_all};
 ghost use Rattle.front_words.specs.Settling.{first_of as the_first, preset_of as whose, meta_by, known_page as the_page, known_block as the_block};
 ghost use Rattle.front_words.specs.Settling.{known_meta as the_meta, known_magic as the_magic, start_of, bytes_of, sized as the_sized, fits as the_fit};
 ghost use Rattle.front_words.specs.Settling.{fits_magic, same_magic, agrees as the_agreement, found_volume as the_volume, with_meta as the_meta_of, as_good};
 ghost use Rattle.front_words.specs.Settling.{chosen, agreeing, end_of, reached, settled, needs_found};
+ghost use Rattle.front_words.specs.Settling.{same_numbers, lies_in as the_lying, no_rival, writes as the_writing, edits as the_edit};
+ghost use Rattle.front_words.specs.Settling.{is_doubled as the_doubled, is_harmed as the_harmed, unless_harmed as the_unharmed, none_sure as the_none, alone_in, chosen_by as the_choice, sure, told_volume};
 
 use crate::asked::{Asked, changes, makes};
-use crate::word::Preset;
+use crate::word::{Preset, Word};
 use geometry::MagicKind;
 
 /// A volume that a file may hold, as `detect` finds it.
@@ -29,6 +32,10 @@ pub struct Candidate {
     pub whole: u32,
     /// How many ids are damaged by these.
     pub damaged: u32,
+    /// How many of its blocks lack their magic.
+    pub spoiled: u32,
+    /// How many ids have two live header pages or more.
+    pub doubled: u32,
 }
 
 /// The volume that a line means.
@@ -61,6 +68,12 @@ pub enum Unsettled {
     Several,
     /// The one that was found reads as much by several numbers of meta bytes, and the line would change it.
     AnyMeta,
+    /// So many blocks of the one that was found lack their magic, and the line would change it.
+    Spoiled(u32),
+    /// So many ids of the one that was found have two header pages or more, as where two volumes stand end to end, and the line would change it.
+    Doubled(u32),
+    /// So many ids of the one that was found are damaged, and the line would change it.
+    Harmed(u32),
     /// The volume that begins at byte `at` ends before byte `end` of the file, of which the first 2^32 - 1 are reached.
     TooFar { at: u32, end: u64 },
 }
@@ -264,7 +277,7 @@ fn next_agreeing<'c>(asked: &Asked, found: &'c [Candidate]) -> Option<(Candidate
 }
 
 // A volume that was found, with these meta bytes.
-fn found_volume(found: &Candidate, meta: u32) -> Volume
+pub(crate) fn found_volume(found: &Candidate, meta: u32) -> Volume
     ensures { result ≡ the_volume found.now meta }
 {
     Volume {
@@ -297,7 +310,148 @@ fn is_as_good(one: &Candidate, other: &Candidate) -> bool
     one.whole == other.whole && one.damaged == other.damaged
 }
 
-// The best that was found, if one is best.
+// Whether two that were found are the same.
+fn is_same(one: &Candidate, other: &Candidate) -> bool
+    ensures { result ≡ same_numbers one.now other.now }
+{
+    one.at == other.at
+        && one.page == other.page
+        && one.block == other.block
+        && one.blocks == other.blocks
+        && has_magic(Some(one.magic), other.magic)
+}
+
+// The byte behind the last one of a volume that was found.
+fn behind(found: &Candidate) -> u64
+    ensures { result ≡ found.now.at + found.now.block * found.now.blocks }
+{
+    u64::from(found.at) + u64::from(found.block) * u64::from(found.blocks)
+}
+
+// Whether one that was found lies within another, and reads no more.
+fn lies_in(one: &Candidate, other: &Candidate) -> bool
+    ensures { result ≡ the_lying one.now other.now }
+{
+    other.at <= one.at && behind(one) <= behind(other) && one.whole <= other.whole
+}
+
+// Whether another one leaves no doubt of one that was found.
+fn is_no_rival(best: &Candidate, other: &Candidate) -> bool
+    ensures { result ≡ no_rival best.now other.now }
+{
+    is_same(best, other)
+        || (best.whole > 0 && other.whole == 0)
+        || (lies_in(other, best) && !lies_in(best, other))
+}
+
+// Whether none that agrees leaves doubt of one.
+fn is_sure(asked: &Asked, found: &[Candidate], best: &Candidate) -> bool
+    ensures { result ≡ list_all (no_rival best.now) (agreeing asked.now found.now) }
+{
+    let mut left = found;
+    while let Some((next, rest)) = next_agreeing(asked, left) {
+        if !is_no_rival(best, &next) {
+            return false;
+        }
+        left = rest;
+    }
+    true
+}
+
+// Whether a line writes to the image.
+fn writes(asked: &Asked) -> bool
+    ensures { result ≡ the_writing asked.now.word asked.now.repairs }
+{
+    match asked.word {
+        Word::Put | Word::Rm | Word::Mv => true,
+        Word::Fsck => asked.repairs,
+        _ => false,
+    }
+}
+
+// Whether a word changes files, and removes the damaged ones before.
+fn edits(word: Word) -> bool
+    ensures { result ≡ the_edit word }
+{
+    matches!(word, Word::Put | Word::Rm | Word::Mv)
+}
+
+// Whether one that was found may be two, and nothing says how many bytes are meant.
+fn is_doubled(asked: &Asked, found: &Candidate) -> bool
+    ensures { result ≡ the_doubled asked.now found.now }
+{
+    asked.size.is_none() && found.doubled >= 2
+}
+
+// Whether ids of one that was found are damaged, and nothing says that they may be removed.
+fn is_harmed(asked: &Asked, found: &Candidate) -> bool
+    ensures { result ≡ the_harmed asked.now found.now }
+{
+    edits(asked.word) && !asked.is_forced && found.damaged > 0
+}
+
+// One that was found and that the line would change, where nothing speaks against that.
+fn unless_harmed(asked: &Asked, found: &Candidate) -> Result<Volume, Unsettled>
+    ensures { result ≡ the_unharmed asked.now found.now }
+{
+    if found.spoiled >= 2 {
+        return Err(Unsettled::Spoiled(found.spoiled));
+    }
+    if is_doubled(asked, found) {
+        return Err(Unsettled::Doubled(found.doubled));
+    }
+    if is_harmed(asked, found) {
+        return Err(Unsettled::Harmed(found.damaged));
+    }
+    with_meta(asked, found)
+}
+
+// Why none is taken.
+fn none_sure(asked: &Asked, found: &[Candidate]) -> Result<Volume, Unsettled>
+    ensures { result ≡ the_none (agreeing asked.now found.now) }
+{
+    match next_agreeing(asked, found) {
+        Some(_) => Err(Unsettled::Several),
+        None => Err(Unsettled::NoneFound),
+    }
+}
+
+// The first of those that agree of which no other leaves doubt.
+fn find_alone(asked: &Asked, found: &[Candidate]) -> Option<Candidate>
+    ensures { result ≡ alone_in (agreeing asked.now found.now) (agreeing asked.now found.now) }
+{
+    let mut left = found;
+    while let Some((next, rest)) = next_agreeing(asked, left) {
+        if is_sure(asked, found, &next) {
+            return Some(next);
+        }
+        left = rest;
+    }
+    None
+}
+
+/// Of the volumes that were found the one of which no other leaves doubt, or why a line that writes takes none: it is told also to those that
+/// only read.
+pub fn choose_sure(asked: &Asked, found: &[Candidate]) -> Result<Volume, Unsettled>
+    ensures { result ≡ sure asked.now (agreeing asked.now found.now) }
+{
+    match find_alone(asked, found) {
+        Some(alone) => unless_harmed(asked, &alone),
+        None => none_sure(asked, found),
+    }
+}
+
+// The one that was found and that is read where the best two read as much.
+fn choose_alone(asked: &Asked, found: &[Candidate]) -> Result<Volume, Unsettled>
+    ensures { result ≡ the_choice asked.now (alone_in (agreeing asked.now found.now) (agreeing asked.now found.now)) }
+{
+    match find_alone(asked, found) {
+        Some(alone) => with_meta(asked, &alone),
+        None => Err(Unsettled::Several),
+    }
+}
+
+// The best that was found.
 fn choose(asked: &Asked, found: &[Candidate]) -> Result<Volume, Unsettled>
     ensures { result ≡ chosen asked.now (agreeing asked.now found.now) }
 {
@@ -305,8 +459,19 @@ fn choose(asked: &Asked, found: &[Candidate]) -> Result<Volume, Unsettled>
         return Err(Unsettled::NoneFound);
     };
     match next_agreeing(asked, rest) {
-        Some((second, _)) if is_as_good(&best, &second) => Err(Unsettled::Several),
+        Some((second, _)) if is_as_good(&best, &second) => choose_alone(asked, found),
         _ => with_meta(asked, &best),
+    }
+}
+
+// The one that was found and that is meant.
+fn choose_any(asked: &Asked, found: &[Candidate]) -> Result<Volume, Unsettled>
+    ensures { result ≡ told_volume asked.now (agreeing asked.now found.now) }
+{
+    if writes(asked) {
+        choose_sure(asked, found)
+    } else {
+        choose(asked, found)
     }
 }
 
@@ -350,7 +515,7 @@ pub fn settle(asked: &Asked, length: u64, found: &[Candidate]) -> Result<Volume,
             };
             sized(asked, byte_count(asked, length), kept)
         }
-        _ => choose(asked, found),
+        _ => choose_any(asked, found),
     };
     within_reach(meant?)
 }

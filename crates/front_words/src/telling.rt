@@ -1,8 +1,9 @@
 //! Why a line is refused, in words for the one who gave it.
 use crate::asked::Refusal;
 use crate::option::Slot;
-use crate::settling::Unsettled;
+use crate::settling::{Candidate, Unsettled, Volume, found_volume};
 use crate::word::Word;
+use geometry::MagicKind;
 use std::fmt;
 
 // How an option is written.
@@ -19,6 +20,7 @@ fn option_name(slot: Slot) -> &'static str {
         Slot::Repair => "--repair",
         Slot::Svg => "--svg",
         Slot::Force => "--force",
+        Slot::RawNames => "--raw-names",
         Slot::Create => "-c",
         Slot::Unpack => "-u",
         Slot::List => "-l",
@@ -109,6 +111,61 @@ impl fmt::Display for Refusal {
     }
 }
 
+// What the magic tells, as the value of its option.
+fn magic_name(magic: MagicKind) -> &'static str {
+    match magic {
+        MagicKind::Plain => "plain",
+        MagicKind::Length => "len",
+    }
+}
+
+/// The options that choose it.
+impl fmt::Display for Volume {
+    fn fmt<W: fmt::Write>(&self, f: &mut fmt::Formatter<W>) -> fmt::Result {
+        let Volume {
+            at,
+            page,
+            block,
+            blocks,
+            meta,
+            magic,
+        } = *self;
+        let size = u64::from(block) * u64::from(blocks);
+        let magic = magic_name(magic);
+        write!(
+            f,
+            "--at {at} --page {page} --block {block} --size {size} --meta {meta} --magic {magic}"
+        )
+    }
+}
+
+/// The options that choose it, and what it reads.
+impl fmt::Display for Candidate {
+    fn fmt<W: fmt::Write>(&self, f: &mut fmt::Formatter<W>) -> fmt::Result {
+        let volume = found_volume(self, self.first_meta);
+        let Candidate {
+            first_meta,
+            last_meta,
+            whole,
+            damaged,
+            spoiled,
+            doubled,
+            ..
+        } = *self;
+        write!(f, "{volume}: {whole} files, {damaged} damaged")?;
+        if first_meta != last_meta {
+            write!(f, ", by --meta up to {last_meta} too")?;
+        }
+        if spoiled >= 2 {
+            write!(f, ", {spoiled} blocks without magic")?;
+        }
+        if doubled >= 2 {
+            write!(f, ", {doubled} ids twice")?;
+        }
+        Ok(())
+    }
+}
+
 impl fmt::Display for Unsettled {
     fn fmt<W: fmt::Write>(&self, f: &mut fmt::Formatter<W>) -> fmt::Result {
         match *self {
@@ -129,6 +186,24 @@ impl fmt::Display for Unsettled {
                 write!(
                     f,
                     "files read as well by several METAs: give the one of the firmware by --meta"
+                )
+            }
+            Unsettled::Spoiled(blocks) => {
+                write!(
+                    f,
+                    "{blocks} blocks of the volume lack their magic, and at most one may"
+                )
+            }
+            Unsettled::Doubled(ids) => {
+                write!(
+                    f,
+                    "{ids} ids have two files: two volumes may stand end to end: give all numbers of one, --size too"
+                )
+            }
+            Unsettled::Harmed(damaged) => {
+                write!(
+                    f,
+                    "{damaged} damaged files of the volume would be removed for good: give --force, or the numbers of another volume"
                 )
             }
             Unsettled::TooFar { at, end } => {

@@ -1,4 +1,5 @@
 //! Names of host files that no file of a volume can have.
+use crate::Shown;
 use crate::host_file::HostFile;
 use std::fmt;
 
@@ -21,12 +22,16 @@ pub enum BadName<'f> {
 impl fmt::Display for BadName<'_> {
     fn fmt<W: fmt::Write>(&self, f: &mut fmt::Formatter<W>) -> fmt::Result {
         match self {
-            BadName::Empty { path } => write!(f, "{path}: its name is empty"),
-            BadName::Zero { path } => write!(f, "{path}: its name holds a zero byte"),
-            BadName::Long { path, bytes } => {
-                write!(f, "{path}: its name has {bytes} bytes, and 31 at most go")
+            BadName::Empty { path } => write!(f, "{}: its name is empty", Shown(path)),
+            BadName::Zero { path } => write!(f, "{}: its name holds a zero byte", Shown(path)),
+            BadName::Long { path, bytes } => write!(
+                f,
+                "{}: its name has {bytes} bytes, and 31 at most go",
+                Shown(path)
+            ),
+            BadName::Taken { path, by } => {
+                write!(f, "{}: {} has the same name", Shown(path), Shown(by))
             }
-            BadName::Taken { path, by } => write!(f, "{path}: {by} has the same name"),
         }
     }
 }
@@ -41,8 +46,8 @@ fn holder<'f>(files: &'f [HostFile], name: &[u8]) -> Option<&'f HostFile> {
     None
 }
 
-// What is wrong with the name of a file that stands behind these.
-fn wrong<'f>(earlier: &'f [HostFile], file: &'f HostFile) -> Option<BadName<'f>> {
+// What is wrong with a name by itself.
+fn wrong_alone(file: &HostFile) -> Option<BadName<'_>> {
     let path = file.path.as_str();
     let bytes = file.name.len();
     if bytes == 0 {
@@ -54,11 +59,24 @@ fn wrong<'f>(earlier: &'f [HostFile], file: &'f HostFile) -> Option<BadName<'f>>
     if bytes > MOST {
         return Some(BadName::Long { path, bytes });
     }
+    None
+}
+
+// What is wrong with the name of a file that stands behind these. They are in the order of their names, so that those of one name are neighbours.
+fn wrong<'f>(earlier: &'f [HostFile], file: &'f HostFile) -> Option<BadName<'f>> {
+    let alone = wrong_alone(file);
+    if alone.is_some() {
+        return alone;
+    }
+    if earlier.last()?.name != file.name {
+        return None;
+    }
+    let path = file.path.as_str();
     let by = holder(earlier, file.name.as_slice())?.path.as_str();
     Some(BadName::Taken { path, by })
 }
 
-/// The first file whose name no file of a volume can have, or an earlier file has.
+/// The first of these files, which are in the order of their names, whose name no file of a volume can have, or an earlier file has.
 pub(crate) fn first_bad(files: &[HostFile]) -> Option<BadName<'_>> {
     for (i, file) in files.iter().enumerate() {
         let bad = wrong(&files[..i], file);

@@ -37,6 +37,11 @@ impl<W: Write + Drop, C: Chip> StdBoard<W, C> {
         }
     }
 
+    /// The row.
+    pub fn row(&self) -> &ChipRow<C> {
+        &self.row
+    }
+
     /// The row and the writer.
     pub fn give_back(self) -> (ChipRow<C>, W) {
         let StdBoard {
@@ -55,7 +60,49 @@ pub fn row_trouble(row: &ChipRow<FileChip>) -> Option<&Trouble> {
     row.chips().get(row.fuse_chip()?)?.trouble()
 }
 
+/// A chip of a row whose use can't be ended, by its number counted from 0, and why.
+#[derive(Drop)]
+pub struct Unfinished {
+    /// The number of the chip.
+    pub chip: usize,
+    /// What failed.
+    pub trouble: Trouble,
+}
+
+/// Ends the use of a row: of each chip what was written is brought onto the host's medium. Answers the first one that can't be ended.
+pub fn finish_row(row: &ChipRow<FileChip>) -> Option<Unfinished> {
+    let mut first = None;
+    for (chip, one) in row.chips().iter().enumerate() {
+        if let Err(trouble) = one.finish() {
+            if first.is_none() {
+                first = Some(Unfinished { chip, trouble });
+            }
+        }
+    }
+    first
+}
+
+/// The number of the first chip whose file another program has, counted from 0.
+pub fn busy_chip(row: &ChipRow<FileChip>) -> Option<usize> {
+    for (chip, one) in row.chips().iter().enumerate() {
+        if one.trouble().is_some_and(|trouble| trouble.is_busy()) {
+            return Some(chip);
+        }
+    }
+    None
+}
+
 impl<W: Write + Drop> StdBoard<W, FileChip> {
+    /// Ends the use of the row, as `finish_row` does.
+    pub fn finish(&self) -> Option<Unfinished> {
+        finish_row(&self.row)
+    }
+
+    /// The number of the first chip whose file another program has, counted from 0.
+    pub fn busy_chip(&self) -> Option<usize> {
+        busy_chip(&self.row)
+    }
+
     /// What failed first, of the chip that failed or else of what was said, if anything did.
     pub fn trouble(&self) -> Option<&Trouble> {
         match self.failed_chip() {

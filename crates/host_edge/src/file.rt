@@ -1,7 +1,9 @@
 ghost use Rattle.std.specs.Prelude.{◌≡◌, ◌+◌, ◌<◌, ◌≤◌, ◌^◌, length, IfOk};
 
+use crate::limit::SizeLimit;
 use std::fs::File;
 use std::io;
+use std::io::{Error, ErrorKind};
 use std::os::unix::fs::FileExt;
 
 /// How many bytes of a file are kept, and are erased at a time.
@@ -16,8 +18,14 @@ static BLANK: [u8; WINDOW] = [0xFF; WINDOW];
 pub(crate) struct Window {
     // Where the piece begins, if there is one: a multiple of its length.
     start: Option<u64>,
-    // The length of the file, if it is known.
-    end: Option<u64>,
+    // The length of the file.
+    end: u64,
+    // Whether the file is a device, which is never lengthened.
+    is_device: bool,
+    // How far it may be written.
+    limit: SizeLimit,
+    // Whether anything was written.
+    has_written: bool,
     bytes: [u8; WINDOW],
 }
 
@@ -35,39 +43,66 @@ fn piece_of(at: u64, count: usize) -> (u64, usize, usize)
     )
 }
 
-// Reads bytes from a place of the file. Past its end they are 0xFF.
-fn read_whole(file: &File, at: u64, into: &mut [u8]) -> io::Result<()> {
-    let mut filled = 0;
-    while filled < into.len() {
-        let count = file.read_at(&mut into[filled..], at.wrapping_add(filled as u64))?;
-        if count == 0 {
-            into[filled..].fill(0xFF);
-            return Ok(());
-        }
-        filled += count;
+// The error for a file that has fewer bytes than it had.
+fn shorter() -> Error {
+    Error::new(
+        ErrorKind::UnexpectedEof,
+        "it has become shorter, since another program has changed it",
+    )
+}
+
+/// Reads bytes that the file has; where it has fewer it has become shorter, which is a fault.
+pub(crate) fn read_known(file: &File, at: u64, into: &mut [u8]) -> io::Result<()> {
+    match file.read_exact_at(into, at) {
+        Ok(()) => Ok(()),
+        Err(why) if why.kind() == ErrorKind::UnexpectedEof => Err(shorter()),
+        Err(why) => Err(why),
     }
-    Ok(())
+}
+
+// Reads bytes from a place of a file that ends there. Past its end they are 0xFF.
+fn read_whole(file: &File, end: u64, at: u64, into: &mut [u8]) -> io::Result<()> {
+    let known = end.saturating_sub(at).min(into.len() as u64) as usize;
+    let (inside, behind) = into.split_at_mut(known);
+    behind.fill(0xFF);
+    if inside.is_empty() {
+        return Ok(());
+    }
+    read_known(file, at, inside)
 }
 
 // Appends 0xFF to the file from its end on until it reaches a place. Answers how long the file is then.
-fn append_blank(file: &File, end: u64, at: u64) -> io::Result<u64> {
+fn append_blank(file: &File, limit: SizeLimit, end: u64, at: u64) -> io::Result<u64> {
     let mut end = end;
     while end < at {
         let piece = (at - end).min(WINDOW as u64);
-        file.write_all_at(&BLANK[..piece as usize], end)?;
+        limit.write_at(file, end, &BLANK[..piece as usize])?;
         end += piece;
     }
     Ok(end)
 }
 
 impl Window {
-    /// Nothing is kept yet.
-    pub(crate) fn new() -> Window {
+    /// Of a file of that length. Nothing is kept yet.
+    pub(crate) fn new(end: u64, is_device: bool, limit: SizeLimit) -> Window {
         Window {
             start: None,
-            end: None,
+            end,
+            is_device,
+            limit,
+            has_written: false,
             bytes: [0xFF; WINDOW],
         }
+    }
+
+    /// The length of the file.
+    pub(crate) fn end(&self) -> u64 {
+        self.end
+    }
+
+    /// Whether anything was written.
+    pub(crate) fn has_written(&self) -> bool {
+        self.has_written
     }
 
     // Gets the piece that begins there.
@@ -76,7 +111,7 @@ impl Window {
             return Ok(());
         }
         self.start = None;
-        read_whole(file, start, &mut self.bytes)?;
+        read_whole(file, self.end, start, &mut self.bytes)?;
         self.start = Some(start);
         Ok(())
     }
@@ -94,25 +129,33 @@ impl Window {
         Ok(())
     }
 
-    // Appends 0xFF to the file until it reaches a place: bytes past its end count as erased, and those that a write leaves
-    // out would otherwise read as zeros. Answers how long the file is then.
-    fn pad_to(&mut self, file: &File, at: u64) -> io::Result<u64> {
-        let end = match self.end.take() {
-            Some(end) => end,
-            None => file.metadata()?.len(),
-        };
-        if end < at {
-            append_blank(file, end, at)
-        } else {
-            Ok(end)
+    // Sees to it that bytes may be written at a place of a plain file: 0xFF is appended until it reaches there, since bytes past its end
+    // count as erased, and those that a write leaves out would otherwise read as zeros. So would those that it has lost.
+    fn reach(&mut self, file: &File, at: u64) -> io::Result<()> {
+        if file.metadata()?.len() < self.end {
+            return Err(shorter());
         }
+        self.end = append_blank(file, self.limit, self.end, at)?;
+        Ok(())
+    }
+
+    // Sees to it that so many bytes may be written at a place.
+    fn make_ready(&mut self, file: &File, at: u64, count: u64) -> io::Result<()> {
+        self.has_written = true;
+        if !self.is_device {
+            return self.reach(file, at);
+        }
+        if at.saturating_add(count) > self.end {
+            return Err(Error::new(ErrorKind::StorageFull, "the device ends there"));
+        }
+        Ok(())
     }
 
     // Writes bytes at a place of the file.
     fn write_at(&mut self, file: &File, at: u64, from: &[u8]) -> io::Result<()> {
-        let end = self.pad_to(file, at)?;
-        file.write_all_at(from, at)?;
-        self.end = Some(end.max(at.saturating_add(from.len() as u64)));
+        self.make_ready(file, at, from.len() as u64)?;
+        self.limit.write_at(file, at, from)?;
+        self.end = self.end.max(at.saturating_add(from.len() as u64));
         Ok(())
     }
 
@@ -125,13 +168,13 @@ impl Window {
         let (start, first, count) = piece_of(at, from.len());
         self.take(file, start)?;
         self.start = None;
-        let end = self.pad_to(file, at)?;
+        self.make_ready(file, at, count as u64)?;
         let piece = &mut self.bytes[first..first + count];
         for (byte, asked) in piece.iter_mut().zip(from) {
             *byte &= *asked;
         }
-        file.write_all_at(piece, at)?;
-        self.end = Some(end.max(at.saturating_add(count as u64)));
+        self.limit.write_at(file, at, piece)?;
+        self.end = self.end.max(at.saturating_add(count as u64));
         self.start = Some(start);
         Ok(count)
     }

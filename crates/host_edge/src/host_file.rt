@@ -3,8 +3,9 @@ ghost use Rattle.std.specs.Prelude.{◌≡◌, ◌≤◌, ◌<◌, ◌^◌, leng
 ghost use Rattle.folder_core.specs.Files.{name_at, size_at};
 ghost use Rattle.host_edge.specs.Host.{host_entries};
 
+use crate::FileId;
 use crate::names::decoded;
-use std::alloc::Global;
+use crate::opening::{Current, Place, none_open, turn_to};
 use std::fs::Files;
 use std::io::{Error, ErrorKind, Read, Seek, SeekFrom};
 use std::{fs, io};
@@ -36,6 +37,8 @@ pub(crate) struct Listed {
     pub files: Vec<HostFile>,
     /// All else, in the order of the paths' bytes.
     pub passed_over: Vec<PassedOver>,
+    /// The path of a plain file that is one of the chips: the first one in the order of paths.
+    pub chip: Option<String>,
 }
 
 // What the name of file `i` stands for.
@@ -54,17 +57,30 @@ pub(crate) fn size_of(files: &Vec<HostFile>, i: usize) -> u64
     files[i].size
 }
 
+// Whether a path comes before that one, where there is one.
+fn is_earlier(path: &String, other: &Option<String>) -> bool {
+    match other {
+        Some(other) => path.as_str() < other.as_str(),
+        None => true,
+    }
+}
+
 // What stands in a folder, in order, so that equal folders are told equally.
-pub(crate) fn list<R: Files>(rt: &R, alloc: Global, folder: &str) -> io::Result<Listed>
+pub(crate) fn list<R: Files>(place: &Place<'_, R>) -> io::Result<Listed>
     ensures few { IfOk result (λ listed. length listed.files.items < 2 ^ 32) }
 {
+    let alloc = place.alloc;
     let mut files = Vec::new(alloc);
     let mut passed_over = Vec::new(alloc);
-    for entry in fs::read_dir(&(rt, alloc), folder)? {
+    let mut chip = None;
+    for entry in fs::read_dir(&(place.rt, alloc), place.path)? {
         let entry = entry?;
         let metadata = entry.metadata()?;
         let path = String::from_str(alloc, entry.path().as_str())?;
         if metadata.is_file() {
+            if place.bounds.chips.contains(&FileId::of(&metadata)) && is_earlier(&path, &chip) {
+                chip = Some(String::from_str(alloc, path.as_str())?);
+            }
             let name = decoded(alloc, entry.file_name().as_bytes())?;
             let size = metadata.len();
             files.push(HostFile { name, path, size })?;
@@ -78,12 +94,26 @@ pub(crate) fn list<R: Files>(rt: &R, alloc: Global, folder: &str) -> io::Result<
     }
     files.sort_unstable_by(|a, b| a.name.cmp(&b.name));
     passed_over.sort_unstable_by(|a, b| a.path.cmp(&b.path));
-    Ok(Listed { files, passed_over })
+    Ok(Listed {
+        files,
+        passed_over,
+        chip,
+    })
 }
 
-// Reads bytes of a file from a place on.
-pub(crate) fn read_at<R: Files>(rt: &R, path: &str, at: u64, into: &mut [u8]) -> io::Result<()> {
-    let mut file = fs::open(rt, path)?;
-    file.seek(SeekFrom::Start(at))?;
-    file.read_exact(into)
+// Reads bytes of file `i` from a place on. It is opened for its first bytes, and kept open.
+pub(crate) fn read_at<R: Files>(
+    place: &Place<'_, R>,
+    current: &mut Option<Current<R::File>>,
+    i: usize,
+    path: &str,
+    at: u64,
+    into: &mut [u8],
+) -> io::Result<()> {
+    turn_to(place, current, i, path, false)?;
+    let Some(open) = current else {
+        return Err(none_open());
+    };
+    open.file.seek(SeekFrom::Start(at))?;
+    open.file.read_exact(into)
 }

@@ -5,8 +5,9 @@ ghost use Rattle.host_edge.specs.Host.{host_entries, HostPuts};
 
 use crate::host_file::{HostFile, name_of};
 use crate::names::path_of;
-use std::alloc::Global;
-use std::fs::{Files, OpenOptions};
+use crate::opening::{Current, Place, none_open, not_made, turn_to};
+use std::alloc::AllocError;
+use std::fs::{Files, OpenFile, OpenOptions};
 use std::io;
 use std::io::{Error, ErrorKind, Write};
 
@@ -17,19 +18,26 @@ struct Written {
     answer: io::Result<()>,
 }
 
-// Writes a piece as far as that can be done.
+// Writes a piece as far as that can be done. A call of the host that a signal cut off is made again.
 fn write_some<W: Write>(out: &mut W, piece: &[u8]) -> Written
     ensures within { result.count ≤ length piece.now }
     ensures whole { OnOk result.answer (result.count ≡ length piece.now) }
 {
     let mut count = 0;
-    while count < piece.len() {
+    for _ in 0..u64::MAX {
+        if count >= piece.len() {
+            return Written {
+                count,
+                answer: Ok(()),
+            };
+        }
         let answer = match out.write(&piece[count..]) {
             Ok(0) => Err(Error::from(ErrorKind::WriteZero)),
             Ok(more) => {
                 count += more;
                 Ok(())
             }
+            Err(why) if why.kind() == ErrorKind::Interrupted => Ok(()),
             Err(why) => Err(why),
         };
         if answer.is_err() {
@@ -38,12 +46,33 @@ fn write_some<W: Write>(out: &mut W, piece: &[u8]) -> Written
     }
     Written {
         count,
-        answer: Ok(()),
+        answer: Err(Error::from(ErrorKind::Interrupted)),
     }
 }
 
-// Puts a piece into a file that is there, which is emptied before where this is the first piece.
-fn put_one<R: Files>(rt: &R, file: &mut HostFile, first: bool, piece: &[u8]) -> io::Result<()>
+// Writes the first piece of a new file as far as that can be done.
+fn write_first<R: Files>(place: &Place<'_, R>, file: &mut R::File, piece: &[u8]) -> Written
+    ensures within { result.count ≤ length piece.now }
+    ensures whole { OnOk result.answer (result.count ≡ length piece.now) }
+{
+    match place.bounds.limit.check(0, piece.len() as u64) {
+        Ok(()) => write_some(file, piece),
+        Err(why) => Written {
+            count: 0,
+            answer: Err(why),
+        },
+    }
+}
+
+// Puts a piece into file `i`, which is there. Before its first piece the file is opened, looked at and only then emptied.
+fn put_one<R: Files>(
+    place: &Place<'_, R>,
+    current: &mut Option<Current<R::File>>,
+    i: usize,
+    file: &mut HostFile,
+    first: bool,
+    piece: &[u8],
+) -> io::Result<()>
     ensures name { file.new.name ≡ file.old.name }
     ensures done { OnOk result
         (file.new.size ≡ size_before first file.old.size + length piece.now) }
@@ -54,17 +83,23 @@ fn put_one<R: Files>(rt: &R, file: &mut HostFile, first: bool, piece: &[u8]) -> 
     if piece.len() as u64 > u64::MAX - before {
         return Err(Error::from(ErrorKind::FileTooLarge));
     }
-    let mut options = OpenOptions::new();
-    options.write(true).truncate(first).append(!first);
-    let mut out = options.open(rt, file.path.as_str())?;
-    let written = write_some(&mut out, piece);
+    place.bounds.limit.check(before, piece.len() as u64)?;
+    turn_to(place, current, i, file.path.as_str(), true)?;
+    let Some(open) = current else {
+        return Err(none_open());
+    };
+    if first {
+        open.file.set_len(0)?;
+    }
+    let written = write_some(&mut open.file, piece);
     file.size = before + written.count as u64;
     written.answer
 }
 
 // Puts a piece into file `i`.
 fn put_at<R: Files>(
-    rt: &R,
+    place: &Place<'_, R>,
+    current: &mut Option<Current<R::File>>,
     files: &mut Vec<HostFile>,
     i: usize,
     first: bool,
@@ -84,14 +119,23 @@ fn put_at<R: Files>(
         })))) }
     ensures length { length files.new.items ≡ length files.old.items }
 {
-    put_one(rt, &mut files[i], first, piece)
+    put_one(place, current, i, &mut files[i], first, piece)
+}
+
+// Makes a file that isn't there, for appending.
+fn make_new<R: Files>(place: &Place<'_, R>, path: &str) -> io::Result<R::File> {
+    let mut options = OpenOptions::new();
+    options.append(true).create_new(true);
+    match options.open(place.rt, path) {
+        Ok(file) => Ok(file),
+        Err(why) => Err(not_made(place.rt, path, why)),
+    }
 }
 
 // Makes the last file, unless it were file number 2^32. A file that stands there unlisted is left alone.
 fn make<R: Files>(
-    rt: &R,
-    alloc: Global,
-    folder: &str,
+    place: &Place<'_, R>,
+    current: &mut Option<Current<R::File>>,
     files: &mut Vec<HostFile>,
     name: &[u8],
     piece: &[u8],
@@ -107,14 +151,18 @@ fn make<R: Files>(
     if files.len() == u32::MAX as usize {
         return Err(Error::from(ErrorKind::FileTooLarge));
     }
-    let path = path_of(alloc, folder, name)?;
-    let name = name.to_vec(alloc)?;
+    let path = path_of(place.alloc, place.path, name)?;
+    let name = name.to_vec(place.alloc)?;
     files.reserve(1)?;
-    let mut options = OpenOptions::new();
-    options.write(true).create_new(true);
-    let mut out = options.open(rt, path.as_str())?;
-    let written = write_some(&mut out, piece);
+    let mut file = make_new(place, path.as_str())?;
+    let written = write_first(place, &mut file, piece);
     let size = written.count as u64;
+    let i = files.len();
+    *current = Some(Current {
+        i,
+        writes: true,
+        file,
+    });
     files.push(HostFile { name, path, size })?;
     written.answer
 }
@@ -139,11 +187,22 @@ fn find(files: &Vec<HostFile>, name: &[u8]) -> Option<usize>
     None
 }
 
-// Puts a piece into the first file of that name, or into a new one.
+/// The path of the file with that name: the first one that has it, or the one that would be made.
+pub(crate) fn path_for<R: Files>(
+    place: &Place<'_, R>,
+    files: &Vec<HostFile>,
+    name: &[u8],
+) -> Result<String, AllocError> {
+    match find(files, name) {
+        Some(i) => String::from_str(place.alloc, files[i].path.as_str()),
+        None => path_of(place.alloc, place.path, name),
+    }
+}
+
+/// Puts a piece into the first file of that name, or into a new one.
 pub(crate) fn put_in<R: Files>(
-    rt: &R,
-    alloc: Global,
-    folder: &str,
+    place: &Place<'_, R>,
+    current: &mut Option<Current<R::File>>,
     files: &mut Vec<HostFile>,
     name: &[u8],
     first: bool,
@@ -158,7 +217,7 @@ pub(crate) fn put_in<R: Files>(
     ensures few { length files.new.items < 2 ^ 32 }
 {
     match find(files, name) {
-        Some(i) => put_at(rt, files, i, first, piece),
-        None => make(rt, alloc, folder, files, name, piece),
+        Some(i) => put_at(place, current, files, i, first, piece),
+        None => make(place, current, files, name, piece),
     }
 }

@@ -3,7 +3,9 @@ ghost use Rattle.std.specs.Prelude.{◌<◌, ◌≤◌};
 
 use chip_row::{Chip, ChipRow};
 use folder_core::Folder;
-use host_edge::{Access, FileChip, StdBoard, StdFolder, StdSource, Trouble};
+use host_edge::{
+    Access, Bounds, FileChip, FileId, SizeLimit, StdBoard, StdFolder, StdSource, Trouble,
+};
 use nor_core::{Board, Nor, Source};
 use std::alloc::{AllocError, Global};
 use std::io::{Cursor, Error};
@@ -222,15 +224,15 @@ fn pieces_are_put_under_the_printed_name(rt: HostRuntime) -> Result<(), Fail> {
     fs::create_dir(&rt, path)?;
     write_in(&rt, path, "%61", "first of its name")?;
     let mut folder = StdFolder::new(&rt, rt.alloc(), path)?;
-    for (name, bytes) in [
-        (b"a".as_slice(), b"hello".as_slice()),
-        (b"/x y.%", b"slash"),
-        (b"..", b"dots"),
-        (b"\x80\xff\n", b"bytes"),
+    for (name, front, rest) in [
+        (b"a".as_slice(), b"he".as_slice(), b"llo".as_slice()),
+        (b"/x y.%", b"sl", b"ash"),
+        (b"..", b"do", b"ts"),
+        (b"\x80\xff\n", b"by", b"tes"),
     ] {
         folder.put(name, true, b"lost").ok().ok_or("put")?;
-        folder.put(name, true, &bytes[..2]).ok().ok_or("put again")?;
-        folder.put(name, false, &bytes[2..]).ok().ok_or("append")?;
+        folder.put(name, true, front).ok().ok_or("put again")?;
+        folder.put(name, false, rest).ok().ok_or("append")?;
     }
     assert!(rt; folder.count() == Ok(4));
     assert!(rt; holds(&mut folder, 0, b"a", b"hello"));
@@ -259,8 +261,33 @@ fn a_put_leaves_what_is_no_plain_file_alone(rt: HostRuntime) -> Result<(), Fail>
     assert!(rt; folder.put(b"a", true, b"hello").is_err());
     assert!(rt; folder.count() == Ok(0));
     let told = folder.trouble().ok_or("no trouble")?.to_string(rt.alloc())?;
-    let wanted = "a file of the folder can't be written: File exists (os error 17)";
+    let wanted = "a file of the folder can't be written: a folder stands in its place";
     assert!(rt; told.as_str() == wanted);
+    fs::remove_dir_all(&rt, path)?;
+    Ok(())
+}
+
+#[test]
+fn a_chip_in_the_folder_is_kept(rt: HostRuntime) -> Result<(), Fail> {
+    let path = path_for(&rt, "kept")?;
+    let path = path.as_str();
+    fs::create_dir(&rt, path)?;
+    write_in(&rt, path, "chip", "chip")?;
+    let chip = format!(in rt.alloc(); "{path}/chip")?;
+    let bounds = Bounds {
+        chips: Vec::from_array(rt.alloc(), [FileId::at(&rt, chip.as_str())?])?,
+        limit: SizeLimit::none(),
+    };
+    let mut folder = StdFolder::within(&rt, rt.alloc(), path, bounds)?;
+    assert!(rt; folder.put(b"chip", true, b"hello").is_err());
+    assert!(rt; folder.failed_path() == chip.as_str());
+    let told = folder.trouble().ok_or("no trouble")?.to_string(rt.alloc())?;
+    let wanted = "a file of the folder can't be written: it is the chip itself";
+    assert!(rt; told.as_str() == wanted);
+    assert!(rt; read_in(&rt, path, "chip")?.as_str() == "chip");
+    assert!(rt; folder.put(b"other", true, b"hello").is_ok());
+    folder.refuse_chips();
+    assert!(rt; folder.count().is_err());
     fs::remove_dir_all(&rt, path)?;
     Ok(())
 }

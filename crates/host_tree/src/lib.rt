@@ -2,9 +2,11 @@
 //! volume. So `host_edge::StdFolder` over it is a folder of all files of the tree.
 #![tactic(auto)]
 
+mod known;
 mod listing;
 mod making;
 mod tree;
 
-pub use listing::{Known, Listed};
+pub use known::{Known, KnownFiles};
+pub use listing::Listed;
 pub use tree::TreeFiles;

@@ -1,6 +1,7 @@
 //! What stands in a tree of folders of the host.
 ghost use Rattle.std.specs.Prelude.{◌≡◌, ◌∷◌, ◌++◌, string_bytes, IfOk};
 
+use crate::known::{Known, KnownFiles};
 use host_edge::PassedOver;
 use std::alloc::{AllocError, Global};
 use std::fs::{Files, Metadata};
@@ -11,20 +12,11 @@ use tree_paths::name_of;
 /// The most bytes of a path below the top of the tree. Its name on a volume has 31 at most.
 const MOST: usize = 1000;
 
-/// A plain file of a tree.
-#[derive(Drop)]
-pub struct Known {
-    /// Its name on a volume.
-    pub name: Vec<u8>,
-    /// Its path, which the host opens.
-    pub path: String,
-}
-
 /// What stands in a tree.
 #[derive(Drop)]
 pub struct Listed {
-    /// The plain files.
-    pub files: Vec<Known>,
+    /// The plain files, by their names.
+    pub files: KnownFiles,
     /// Links and all else that is neither a plain file nor a folder.
     pub passed_over: Vec<PassedOver>,
 }
@@ -33,7 +25,7 @@ impl Listed {
     /// Nothing.
     pub fn none(alloc: Global) -> Listed {
         Listed {
-            files: Vec::new(alloc),
+            files: KnownFiles::none(alloc),
             passed_over: Vec::new(alloc),
         }
     }
@@ -87,7 +79,7 @@ fn note(
     let full = below_top(alloc, top, path.as_str())?;
     if told.is_file() {
         let name = name_of(alloc, path.as_str())?;
-        listed.files.push(Known { name, path: full })?;
+        listed.files.list(Known { name, path: full })?;
     } else {
         listed.passed_over.push(PassedOver {
             path: full,
@@ -131,6 +123,7 @@ pub(crate) fn list<R: Files>(
     // (a tree has an end, which the host doesn't promise)
     for _ in 0..u64::MAX {
         let Some(folder) = folders.pop() else {
+            listed.files.put_in_order()?;
             return Ok(listed);
         };
         *asked = folder_path(alloc, top, folder.as_str())?;

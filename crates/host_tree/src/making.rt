@@ -49,10 +49,26 @@ pub(crate) fn make_folders<R: Files>(rt: &R, top: &str, path: &str) -> io::Resul
     Ok(())
 }
 
-/// Sees that a path leads to a plain file, and to no link.
-pub(crate) fn want_plain<R: Files>(rt: &R, path: &str) -> io::Result<()> {
-    if fs::symlink_metadata(rt, path)?.is_file() {
+// Sees that what stands at a path is a folder, and no link to one.
+fn want_one<R: Files>(rt: &R, path: &str) -> io::Result<()> {
+    if fs::symlink_metadata(rt, path)?.is_dir() {
         return Ok(());
     }
-    Err(Error::new(ErrorKind::InvalidInput, "it is no plain file any more"))
+    Err(no_folder())
+}
+
+// Sees that a folder stands at the path that ends at a byte of a longer one, if a slash stands behind it.
+fn want_until<R: Files>(rt: &R, path: &str, end: usize) -> io::Result<()> {
+    match path.split_at_checked(end) {
+        Some((folder, rest)) if rest.starts_with('/') => want_one(rt, folder),
+        _ => Ok(()),
+    }
+}
+
+/// Sees that each part of a path between the top of a tree and the file is a folder, and no link to one.
+pub(crate) fn want_folders<R: Files>(rt: &R, top: &str, path: &str) -> io::Result<()> {
+    for end in top.len().saturating_add(1)..path.len() {
+        want_until(rt, path, end)?;
+    }
+    Ok(())
 }

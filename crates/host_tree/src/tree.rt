@@ -2,14 +2,16 @@
 ghost use Rattle.std.specs.Prelude.{string_bytes, IfOk};
 ghost use Rattle.host_tree.specs.Below.{IsBelow};
 
-use crate::listing::{Known, Listed, below_top, list};
-use crate::making::{make_folders, want_plain};
+use crate::known::{Known, has_control};
+use crate::listing::{Listed, below_top, list};
+use crate::making::{make_folders, want_folders};
+use host_edge::{not_made, want_same};
 use std::alloc::{AllocError, Allocator, Global};
 use std::cell::RefCell;
-use std::fs::{Files, Metadata, OpenOptions};
+use std::fs::{Files, Metadata, OpenFile, OpenOptions};
 use std::io;
 use std::io::{Error, ErrorKind, Read};
-use tree_paths::{decoded, is_clash, path_of, push_spelled};
+use tree_paths::{decoded, path_of, push_spelled};
 
 /// The files of a tree of folders of the host, as a host that has one folder: the folder `top`. Its entries are the spelled names that the
 /// tree's plain files have on a volume. A file that is made there is put where `tree_paths::path_of` says, aside if its name clashes
@@ -20,7 +22,11 @@ pub struct TreeFiles<R: Files + Drop> {
     alloc: Global,
     top: String,
     makes: bool,
+    // Whether names with control characters are names of files there too.
+    is_raw: bool,
     listed: RefCell<Listed>,
+    // The paths of files that were put aside since their names hold control characters.
+    unwanted: RefCell<Vec<String>>,
     // The path of which the host was asked last.
     asked: RefCell<String>,
 }
@@ -46,26 +52,6 @@ fn last_part(path: &str) -> &str {
         Some((_, name)) => name,
         None => path,
     }
-}
-
-// The path of the file with that name, if it is known.
-fn known_path<'f>(files: &'f [Known], name: &[u8]) -> Option<&'f str> {
-    for file in files {
-        if file.name.as_slice() == name {
-            return Some(file.path.as_str());
-        }
-    }
-    None
-}
-
-// Whether a name can't be put into the tree beside the files that are there.
-fn clashes(files: &[Known], name: &[u8]) -> bool {
-    for file in files {
-        if is_clash(name, file.name.as_slice()) {
-            return true;
-        }
-    }
-    false
 }
 
 // The path of a file that is made below a folder, aside or not.
@@ -104,9 +90,16 @@ impl<R: Files + Drop> TreeFiles<R> {
             alloc,
             top: String::from_str(alloc, top)?,
             makes,
+            is_raw: false,
             listed: RefCell::new(Listed::none(alloc)),
+            unwanted: RefCell::new(Vec::new(alloc)),
             asked: RefCell::new(String::from_str(alloc, top)?),
         })
+    }
+
+    /// From now on a name with control characters may be a path of the tree; else the file of such a name is put aside.
+    pub fn take_raw_names(&mut self) {
+        self.is_raw = true;
     }
 
     /// The path that the host opens of the file with such an entry, if there is one.
@@ -115,7 +108,7 @@ impl<R: Files + Drop> TreeFiles<R> {
         let Ok(listed) = self.listed.try_borrow() else {
             return Err(is_lent());
         };
-        match known_path(listed.files.as_slice(), name.as_slice()) {
+        match listed.files.path_of(name.as_slice()) {
             Some(path) => Ok(String::from_str(self.alloc, path)?),
             None => Err(Error::from(ErrorKind::NotFound)),
         }
@@ -128,6 +121,17 @@ impl<R: Files + Drop> TreeFiles<R> {
         };
         match listed.passed_over.get(number) {
             Some(passed) => Ok(Some(String::from_str(self.alloc, passed.path.as_str())?)),
+            None => Ok(None),
+        }
+    }
+
+    /// The path of a file that was put aside since its name holds control characters, by its number in the order in which they were made.
+    pub fn unwanted(&self, number: usize) -> io::Result<Option<String>> {
+        let Ok(unwanted) = self.unwanted.try_borrow() else {
+            return Err(is_lent());
+        };
+        match unwanted.get(number) {
+            Some(path) => Ok(Some(String::from_str(self.alloc, path.as_str())?)),
             None => Ok(None),
         }
     }
@@ -173,12 +177,20 @@ impl<R: Files + Drop> TreeFiles<R> {
             return Err(is_lent());
         };
         let mut entries = Vec::new(self.alloc);
-        for file in listed.files.as_slice() {
+        for file in listed.files.all() {
             let mut entry = String::new(self.alloc);
             push_spelled(&mut entry, file.name.as_slice())?;
             entries.push(entry)?;
         }
         Ok(entries)
+    }
+
+    // Whether a name is put aside since its path in the tree would hold control characters.
+    fn is_unwanted(&self, name: &[u8]) -> Result<bool, AllocError> {
+        if self.is_raw {
+            return Ok(false);
+        }
+        Ok(has_control(path_of(self.alloc, name, false)?.as_str()))
     }
 
     // The path of a file that is made with that name. It goes on behind the top by parts that lead down alone.
@@ -188,8 +200,21 @@ impl<R: Files + Drop> TreeFiles<R> {
         let Ok(listed) = self.listed.try_borrow() else {
             return Err(is_lent());
         };
-        let is_aside = clashes(listed.files.as_slice(), name);
+        let is_aside = self.is_unwanted(name)? || listed.files.clash_with(name)?;
         Ok(new_path_in(self.alloc, self.top.as_str(), name, is_aside)?)
+    }
+
+    // Notes a file that was made, if its name holds control characters.
+    fn note_unwanted(&self, name: &[u8], path: &str) -> io::Result<()> {
+        if !self.is_unwanted(name)? {
+            return Ok(());
+        }
+        let path = String::from_str(self.alloc, path)?;
+        let Ok(mut unwanted) = self.unwanted.try_borrow_mut() else {
+            return Err(is_lent());
+        };
+        unwanted.push(path)?;
+        Ok(())
     }
 
     // Notes a file that was made.
@@ -197,8 +222,20 @@ impl<R: Files + Drop> TreeFiles<R> {
         let Ok(mut listed) = self.listed.try_borrow_mut() else {
             return Err(is_lent());
         };
-        listed.files.push(Known { name, path })?;
+        listed.files.add(Known { name, path })?;
         Ok(())
+    }
+
+    // Makes a file at a path, and folders on the way. Each has to be a folder still once the file is there.
+    fn make_at(&self, how: &OpenOptions, path: &str) -> io::Result<R::File> {
+        make_folders(&self.rt, self.top.as_str(), path)?;
+        let file = match self.rt.open_file(how, path) {
+            Ok(file) => file,
+            Err(why) => return Err(not_made(&self.rt, path, why)),
+        };
+        want_folders(&self.rt, self.top.as_str(), path)?;
+        want_same(&self.rt, path, &file.metadata()?)?;
+        Ok(file)
     }
 
     // Makes the file of an entry.
@@ -206,18 +243,20 @@ impl<R: Files + Drop> TreeFiles<R> {
         let name = decoded(self.alloc, last_part(entry).as_bytes())?;
         let path = self.new_path(name.as_slice())?;
         self.ask(path.as_str())?;
-        make_folders(&self.rt, self.top.as_str(), path.as_str())?;
-        let file = self.rt.open_file(how, path.as_str())?;
+        let file = self.make_at(how, path.as_str())?;
+        self.note_unwanted(name.as_slice(), path.as_str())?;
         self.know(name, path)?;
         Ok(file)
     }
 
-    // Opens the file of an entry that is there.
+    // Opens the file of an entry that is there. Each folder on the way has to be one before and after. What was opened, whoever opens it looks at.
     fn open_known(&self, how: &OpenOptions, entry: &str) -> io::Result<R::File> {
         let path = self.host_path(entry)?;
         self.ask(path.as_str())?;
-        want_plain(&self.rt, path.as_str())?;
-        self.rt.open_file(how, path.as_str())
+        want_folders(&self.rt, self.top.as_str(), path.as_str())?;
+        let file = self.rt.open_file(how, path.as_str())?;
+        want_folders(&self.rt, self.top.as_str(), path.as_str())?;
+        Ok(file)
     }
 }
 

@@ -1,5 +1,5 @@
 -- Two candidates at one place have the same number of blocks.
-use Rattle.std.proofs.Common.{◌≡◌, ℕ, ◌-◌, ◌+◌, ◌*◌, ◌/◌, ◌<◌, ◌≤◌, Bool, true, false, List, drop, bit_xor, refl, sym, ap, ◌∙◌, arith, ⊎_elim}
+use Rattle.std.proofs.Common.{◌≡◌, ℕ, ◌-◌, ◌+◌, ◌*◌, ◌/◌, ◌<◌, ◌≤◌, Bool, true, false, List, drop, bit_xor, refl, sym, ap, ◌∙◌, subst, arith, ⊎_elim}
 use Rattle.std.proofs.lemmas.Bool.{cases_Bool, eqb-true, true_from_ne_false}
 use Rattle.geometry.specs.declared.geometry.Geometry.{Geometry}
 use Rattle.geometry.specs.declared.magic.MagicKind.{MagicKind}
@@ -10,56 +10,9 @@ use Rattle.nor_core.specs.Flash.{word_at}
 use Rattle.image_model.specs.Places.{has_magic, slot_of}
 use Rattle.volume_detect.specs.Candidates.{SameBlocks}
 use Rattle.volume_detect.specs.Places.{IsFoundAt, byte_of}
-use Rattle.volume_detect.specs.Rows.{AtMostOne}
-use Rattle.volume_detect.proofs.Gaps.{gap_from_count}
+use Rattle.volume_detect.specs.Marks.{failing, most_failing}
+use Rattle.volume_detect.proofs.Gaps.{one_fails}
 use Rattle.volume_detect.proofs.Magics.{same_distance}
-
--- of the blocks other than one that fails, each passes
-other_passes : (p : ℕ → Bool) (n : ℕ) → AtMostOne p n → (b c : ℕ) → b < n → c < n → (b ≡ c → ⊥) → p b ≡ false → p c ≡ true
-other_passes p n gap b c low low' other fails = true_from_ne_false _ (λ fails'. other (gap b c low low' fails fails'))
-
--- a block that passes both tests
-record PassesBoth (p q : ℕ → Bool) : Type 0 where
-  block : ℕ
-  low : block < 3
-  first : p block ≡ true
-  second : q block ≡ true
-
--- one of the first three does, where at most one fails each
-passes_both : (p q : ℕ → Bool) (n m : ℕ) → 3 ≤ n → 3 ≤ m → AtMostOne p n → AtMostOne q m → PassesBoth p q
-passes_both p q n m three three' gap gap' =
-    let zero_one : 0 ≡ 1 → ⊥ = λ e. absurd (omega (arith, e)) in
-    let zero_two : 0 ≡ 2 → ⊥ = λ e. absurd (omega (arith, e)) in
-    let one_two : 1 ≡ 2 → ⊥ = λ e. absurd (omega (arith, e)) in
-    let has : (b c : ℕ) → b < 3 → c < 3 → (b ≡ c → ⊥) → p b ≡ false → p c ≡ true =
-    λ b c low low'. other_passes p n gap b c (omega (arith, low, three)) (omega (arith, low', three)) in
-    let has' : (b c : ℕ) → b < 3 → c < 3 → (b ≡ c → ⊥) → q b ≡ false → q c ≡ true =
-    λ b c low low'. other_passes q m gap' b c (omega (arith, low, three')) (omega (arith, low', three')) in
-    ⊎_elim
-    (λ (yes : p 0 ≡ true). ⊎_elim
-    (λ (yes' : q 0 ≡ true). record { block = 0; low = omega arith; first = yes; second = yes' })
-    (λ (no' : q 0 ≡ false). ⊎_elim
-    (λ (next : p 1 ≡ true). record { block = 1; low = omega arith; first = next; second = has' 0 1 (omega arith) (omega arith) zero_one no' })
-    (λ (next : p 1 ≡ false).
-    record {
-      block = 2;
-      low = omega arith;
-      first = has 1 2 (omega arith) (omega arith) one_two next;
-      second = has' 0 2 (omega arith) (omega arith) zero_two no';
-    })
-    (cases_Bool (p 1)))
-    (cases_Bool (q 0)))
-    (λ (no : p 0 ≡ false). ⊎_elim
-    (λ (next : q 1 ≡ true). record { block = 1; low = omega arith; first = has 0 1 (omega arith) (omega arith) zero_one no; second = next })
-    (λ (next : q 1 ≡ false).
-    record {
-      block = 2;
-      low = omega arith;
-      first = has 0 2 (omega arith) (omega arith) zero_two no;
-      second = has' 1 2 (omega arith) (omega arith) one_two next;
-    })
-    (cases_Bool (q 1)))
-    (cases_Bool (p 0))
 
 -- the word of an image that may be the magic of a block
 abbrev magic_word : (page block : ℕ) → List ℕ → ℕ → ℕ
@@ -102,23 +55,41 @@ module _ (file : List ℕ) (place : ℕ) (g h : Geometry) (found : IsFoundAt fil
       let ge : g.blocks ≤ h.blocks = no_longer h g found' found plain' plain in
       omega (arith, le, ge)
 
-  -- one of the first three blocks has the magic of both, and that tells the length
-  by_length : g.magic ≡ Length → h.blocks ≡ g.blocks
-  by_length kind =
+  -- a block with the magic of both tells the length
+  by_block : (b : ℕ) → b < 3 → g.magic ≡ Length → has_magic g (drop (byte_of place) file) b ≡ true → has_magic h (drop (byte_of place) file) b ≡ true → h.blocks ≡ g.blocks
+  by_block b low kind has has' =
       let image : List ℕ = drop (byte_of place) file in
       let three : 3 ≤ g.blocks = g.valid.some_blocks in
       let three' : 3 ≤ h.blocks = h.valid.some_blocks in
       let like : SameBlocks g h = same g h found found' in
-      let w : PassesBoth (has_magic g image) (has_magic h image) =
-      passes_both (has_magic g image) (has_magic h image) g.blocks h.blocks three three'
-      (gap_from_count g image found.candidate.row.magics) (gap_from_count h image found'.candidate.row.magics) in
-      let tells : magic_word g.page g.block image w.block ≡ bit_xor (bit_xor 0x0529 g.page) (g.blocks - w.block) =
-      word_tells g image w.block g.page g.block refl refl kind w.first in
-      let tells' : magic_word g.page g.block image w.block ≡ bit_xor (bit_xor 0x0529 g.page) (h.blocks - w.block) =
-      word_tells h image w.block g.page g.block like.page like.block (like.magic ∙ kind) w.second in
-      let distance : h.blocks - w.block ≡ g.blocks - w.block =
-      same_distance (bit_xor 0x0529 g.page) (h.blocks - w.block) (g.blocks - w.block) (sym tells' ∙ tells) in
-      omega (arith, distance, w.low, three, three')
+      let tells : magic_word g.page g.block image b ≡ bit_xor (bit_xor 0x0529 g.page) (g.blocks - b) = word_tells g image b g.page g.block refl refl kind has in
+      let tells' : magic_word g.page g.block image b ≡ bit_xor (bit_xor 0x0529 g.page) (h.blocks - b) = word_tells h image b g.page g.block like.page like.block (like.magic ∙ kind) has' in
+      let distance : h.blocks - b ≡ g.blocks - b = same_distance (bit_xor 0x0529 g.page) (h.blocks - b) (g.blocks - b) (sym tells' ∙ tells) in
+      omega (arith, distance, low, three, three')
+
+  -- where the first lacks it the second has it
+  second_has : (a : Geometry) → IsFoundAt file place a → has_magic a (drop (byte_of place) file) 0 ≡ false → has_magic a (drop (byte_of place) file) 1 ≡ true
+  second_has a is lacks =
+      let good : ℕ → Bool = has_magic a (drop (byte_of place) file) in
+      let three : 3 ≤ a.blocks = a.valid.some_blocks in
+      let few : failing good a.blocks ≤ 1 = subst (λ (has : Bool). failing good a.blocks ≤ most_failing a.magic has a.blocks) lacks is.candidate.row.marks.few in
+      true_from_ne_false _ (λ lacks'. let one : 0 ≡ 1 = one_fails good a.blocks few 0 1 (omega (arith, three)) (omega (arith, three)) lacks lacks' in absurd (omega (arith, one)))
+
+  -- the first blocks have it, or the second ones
+  by_length : g.magic ≡ Length → h.blocks ≡ g.blocks
+  by_length kind =
+      let image : List ℕ = drop (byte_of place) file in
+      let kind' : h.magic ≡ Length = (same g h found found').magic ∙ kind in
+      ⊎_elim
+      (λ (has : has_magic g image 0 ≡ true). ⊎_elim
+      (λ (has' : has_magic h image 0 ≡ true). by_block 0 (omega arith) kind has has')
+      (λ (lacks' : has_magic h image 0 ≡ false). absurd (found'.candidate.told kind' lacks' g (same h g found' found) found.candidate.row has))
+      (cases_Bool (has_magic h image 0)))
+      (λ (lacks : has_magic g image 0 ≡ false). ⊎_elim
+      (λ (has' : has_magic h image 0 ≡ true). absurd (found.candidate.told kind lacks h (same g h found found') found'.candidate.row has'))
+      (λ (lacks' : has_magic h image 0 ≡ false). by_block 1 (omega arith) kind (second_has g found lacks) (second_has h found' lacks'))
+      (cases_Bool (has_magic h image 0)))
+      (cases_Bool (has_magic g image 0))
 
   by_kind : (kind : MagicKind) → g.magic ≡ kind → h.blocks ≡ g.blocks
   by_kind Plain is = by_plain is

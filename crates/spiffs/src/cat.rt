@@ -5,12 +5,12 @@ use crate::give::{
 use crate::look::geometry_of;
 use crate::meant::{Meant, text_of};
 use crate::stop::Stop;
-use crate::{BOARD_FAULT, DAMAGED, Memory, REFUSED, Refusal, take_memory};
+use crate::{BOARD_FAULT, DAMAGED, Memory, REFUSED, take_memory};
 use chip_row::ChipRow;
 use front_edge::HostChip;
 use front_words::place;
 use geometry::Geometry;
-use host_edge::{Access, StdFolder};
+use host_edge::{Shown, StdFolder, Trouble};
 use nor_core::Nor;
 use table_model::{FsErr, Stat};
 use tool_parts::Buffers;
@@ -30,8 +30,8 @@ enum Printed {
     Whole,
     /// There is no file of that name.
     Missing,
-    /// The chip failed.
-    Fault,
+    /// The chip failed, or the file can't be read for this reason.
+    Fault(FsErr),
     /// Standard output failed, which was said.
     Closed,
 }
@@ -56,8 +56,9 @@ fn print_file<N: Nor>(rt: &HostRuntime, reader: &mut Reader<'_, N>, id: u16) -> 
     let mut piece = [0u8; PIECE];
     let mut at = 0;
     for _ in 0..u32::MAX {
-        let Ok(count) = reader.read_at(id, at, &mut piece) else {
-            return Printed::Fault;
+        let count = match reader.read_at(id, at, &mut piece) {
+            Ok(count) => count,
+            Err(why) => return Printed::Fault(why),
         };
         if count == 0 {
             return Printed::Whole;
@@ -67,7 +68,7 @@ fn print_file<N: Nor>(rt: &HostRuntime, reader: &mut Reader<'_, N>, id: u16) -> 
         }
         at += count;
     }
-    Printed::Fault
+    Printed::Fault(FsErr::SeekBounds)
 }
 
 // Prints the file with that name of a volume in lent memory; None where the volume isn't mounted.
@@ -88,7 +89,7 @@ fn print_on<N: Nor>(
     match find(&mut reader, name) {
         Ok(Some(stat)) => Some(print_file(rt, &mut reader, stat.id)),
         Ok(None) => Some(Printed::Missing),
-        Err(_) => Some(Printed::Fault),
+        Err(why) => Some(Printed::Fault(why)),
     }
 }
 
@@ -110,14 +111,35 @@ fn print_in<C: HostChip>(
 }
 
 // Ends where the volume isn't mounted, as a list of it does.
-fn end_unmounted(rt: &HostRuntime, meant: &Meant<'_>, memory: &mut Memory) -> Result<u8, Refusal> {
+fn end_unmounted(rt: &HostRuntime, meant: &Meant<'_>, memory: &mut Memory) -> Result<u8, Stop> {
     let mut folder = StdFolder::unlisted(rt, rt.alloc());
-    let row = row_of(rt, meant, chip_file(rt, meant, Access::Read))?;
+    let row = row_of(rt, meant, chip_file(meant)?)?;
     let told = give_on(rt, meant, row, b"", &mut folder, memory, Guard::Open)?;
     if matches!(told.status, 0 | DAMAGED) {
+        let image = Shown(meant.image);
+        // (if standard error fails too there is nobody to tell)
+        let _said = eprintln!(rt; "spiffs: {image}: the volume was mounted, and then it wasn't");
         return Ok(BOARD_FAULT);
     }
     Ok(end_told(rt, meant, &told))
+}
+
+// Says why a file can't be read: what failed of the image, or else what the volume answered.
+fn explain_fault(
+    rt: &HostRuntime,
+    meant: &Meant<'_>,
+    given: &str,
+    why: FsErr,
+    trouble: Option<&Trouble>,
+) {
+    if trouble.is_some() {
+        explain_image(rt, meant, trouble);
+    } else {
+        let image = Shown(meant.image);
+        let given = Shown(given);
+        // (if standard error fails too there is nobody to tell)
+        let _said = eprintln!(rt; "spiffs: {image}: {given}: {why}");
+    }
 }
 
 /// Prints the bytes of a file. In its name `%` and two hexadecimal digits stand for a byte.
@@ -125,20 +147,21 @@ pub fn cat(rt: &HostRuntime, meant: &Meant<'_>) -> Result<u8, Stop> {
     let given = text_of(place(meant.words, 2));
     let name = decoded(rt.alloc(), given.as_bytes())?;
     let mut memory = take_memory(rt, &meant.top)?;
-    let mut row = row_of(rt, meant, chip_file(rt, meant, Access::Read))?;
+    let mut row = row_of(rt, meant, chip_file(meant)?)?;
     let printed = print_in(rt, meant, name.as_slice(), &mut row, &mut memory.lend());
     match printed {
         Some(Printed::Whole) => Ok(0),
         Some(Printed::Missing) => {
             let why = FsErr::NotFound;
+            let given = Shown(given);
             let _said = eprintln!(rt; "spiffs: {given}: {why}");
             Ok(REFUSED)
         }
-        Some(Printed::Fault) => {
-            explain_image(rt, meant, trouble_of(&row));
+        Some(Printed::Fault(why)) => {
+            explain_fault(rt, meant, given, why, trouble_of(&row));
             Ok(BOARD_FAULT)
         }
         Some(Printed::Closed) => Ok(BOARD_FAULT),
-        None => Ok(end_unmounted(rt, meant, &mut memory)?),
+        None => end_unmounted(rt, meant, &mut memory),
     }
 }

@@ -1,12 +1,14 @@
 //! A copy of a volume onto another one: two rows of chip files, and memory for each.
+use crate::chips::{check_free, check_names, end_row, open_row};
+use crate::guard::is_stopped;
 use crate::look::look_on;
 use crate::words::{CHIP_WORD, target_words, word};
 use crate::{
     BAD_NAME, BOARD_FAULT, Memory, NO_VOLUME, OTHER_META, Refusal, SMALL_CACHE, cache_for,
-    explain_chip, explain_removed, explain_status, is_refused, open_row,
+    explain_chip, explain_removed, explain_status,
 };
 use copy_tool::{copy_tool, is_accepted};
-use host_edge::{Access, StdBoard, is_one_file, row_trouble};
+use host_edge::{Access, StdBoard, Unfinished, busy_chip, finish_row, is_one_file, row_trouble};
 use nor_core::Failed;
 use std::alloc::AllocError;
 use tool_parts::chip_size_of;
@@ -70,6 +72,19 @@ fn explain_bad_name(rt: &impl Eprint) {
     );
 }
 
+// The status of a copy that ended so, once the row of the source is ended.
+fn end_source(rt: &HostRuntime, names: &str, ended: Option<Unfinished>, status: u8) -> u8 {
+    let Some(Unfinished { chip, trouble }) = ended else {
+        return status;
+    };
+    // (a chip that failed before has said why)
+    if matches!(status, BOARD_FAULT | SOURCE_CHIP_FAULT) {
+        return status;
+    }
+    explain_chip(rt, names, Some(chip), Some(&trouble));
+    SOURCE_CHIP_FAULT
+}
+
 // Gives the copy that the words spell, over the chip files that they name. The source's are opened for reading alone, and none is made.
 // The target is checked, so it is looked at first as before a check.
 fn copy(
@@ -85,9 +100,13 @@ fn copy(
     let behind = target_words(words);
     let from = word(words, CHIP_WORD);
     let to = word(behind, CHIP_WORD);
+    check_names(rt, words, from)?;
+    check_names(rt, words, to)?;
     let mut source = open_row(rt, words, from, Access::Read)?;
+    check_free(rt, words, from, busy_chip(&source))?;
     let row = open_row(rt, behind, to, Access::Write)?;
     let mut board = StdBoard::new(row, rt.stdout());
+    check_free(rt, words, to, board.busy_chip())?;
     let mut source_bufs = memory.source.lend();
     let mut bufs = memory.target.lend();
     let mut seen = None;
@@ -100,7 +119,7 @@ fn copy(
             }
         };
     }
-    if is_refused(rt, seen) {
+    if is_stopped(rt, behind, to, is_forced, seen, &board)? {
         return Ok(OTHER_META);
     }
     let status = copy_tool(words, &mut source, &mut board, &mut source_bufs, &mut bufs);
@@ -112,7 +131,8 @@ fn copy(
         _ => explain_status(rt, words, status),
     }
     explain_removed(rt, seen, status);
-    Ok(status)
+    let status = end_row(rt, to, board.finish(), status);
+    Ok(end_source(rt, from, finish_row(&source), status))
 }
 
 /// Takes the memory, and gives the copy; where it is forced, no other META of the target is tried.

@@ -1,20 +1,27 @@
 //! The command `detect`, and what it finds where there is no volume by the numbers that were given.
+ghost use Rattle.std.specs.Prelude.{◌≡◌, ◌*◌, ◌/◌, ◌%◌, ◌<◌, ◌≤◌, ◌^◌, length};
+ghost use Rattle.volume_detect.specs.Words.{HasWords};
+
 use crate::Refusal;
+use crate::chips::chip_paths;
 use crate::words::chip_word;
 use chip_row::ChipRow;
 use detect_tool::{Memory as Lent, blank_place, detect_tool, found_need};
-use host_edge::{Access, FileChip, StdBoard};
+use host_edge::{Access, FileChip, HeldFile, StdBoard};
 use nor_core::Nor;
+use nor_image::Image;
 use std::alloc::{AllocError, Global};
-use std::fs;
 use std::io::Write;
-use volume_detect::words_need;
-use volume_rank::Found;
+use volume_detect::{UNIT, next_candidate, read_words, words_need};
+use volume_rank::{Found, collect};
 
 /// Bytes of work and of marks that are lent: enough for every volume.
-pub const WORK: usize = 557_056;
+const WORK: usize = 557_056;
 
-pub const CHECK: usize = 65_535;
+const CHECK: usize = 65_535;
+
+/// The number of places at which a volume may begin in the largest file.
+pub const PLACES: u32 = 88_080_384;
 
 /// The memory that is lent to `detect_tool`.
 #[derive(Drop)]
@@ -42,14 +49,21 @@ impl Memory {
     }
 }
 
+// The chip files of these names for reading alone, each opened as a chip of one byte.
+fn open_chips(rt: &HostRuntime, names: &str) -> Result<Vec<FileChip>, AllocError> {
+    let mut chips = Vec::new(rt.alloc());
+    for path in chip_paths(rt.alloc(), names)? {
+        let chip = FileChip::new(rt, path, Access::Read, 1, 1);
+        chips.push(chip).map_err(AllocError::from)?;
+    }
+    Ok(chips)
+}
+
 // How many bytes each chip has: as many as the longest of the files, and at least one.
-fn chip_size(rt: &HostRuntime, paths: &[&str]) -> Result<u32, Refusal> {
+fn chip_size(chips: &[FileChip]) -> Result<u32, Refusal> {
     let mut longest = 1;
-    for path in paths {
-        // (a file that isn't there is told as the chip is read)
-        if let Ok(told) = fs::metadata(rt, *path) {
-            longest = told.len().max(longest);
-        }
+    for chip in chips {
+        longest = chip.length().max(longest);
     }
     match u32::try_from(longest) {
         Ok(size) => Ok(size),
@@ -59,12 +73,11 @@ fn chip_size(rt: &HostRuntime, paths: &[&str]) -> Result<u32, Refusal> {
 
 // The row of the chip files, for reading alone.
 fn row_of(rt: &HostRuntime, words: &[String]) -> Result<ChipRow<FileChip>, Refusal> {
-    let paths: Vec<&str> = chip_word(words).split(',').collect(rt.alloc())?;
-    let size = chip_size(rt, &paths)?;
+    let opened = open_chips(rt, chip_word(words))?;
+    let size = chip_size(&opened)?;
     let mut chips = Vec::new(rt.alloc());
-    for path in paths {
-        let chip = FileChip::new(rt, path, Access::Read, size, 1);
-        chips.push(chip).map_err(AllocError::from)?;
+    for chip in opened {
+        chips.push(chip.resized(size, 1)).map_err(AllocError::from)?;
     }
     match ChipRow::new(chips, size, 1) {
         Ok(row) => Ok(row),
@@ -113,11 +126,67 @@ fn say_found(rt: &HostRuntime, names: &str) -> Result<u8, Refusal> {
 /// Says on standard error what the command says of the chip files of these names; nothing where there is no memory for it.
 pub fn tell_found_in(rt: &HostRuntime, names: &str) {
     match say_found(rt, names) {
-        Ok(_) | Err(Refusal::Memory | Refusal::Chips) => {}
+        Ok(_) | Err(Refusal::Memory | Refusal::Chips | Refusal::Told(_)) => {}
     }
 }
 
 /// Says on standard error what the command says of the chip files of another command; nothing where there is no memory for it.
 pub fn tell_found(rt: &HostRuntime, words: &[String]) {
     tell_found_in(rt, chip_word(words));
+}
+
+// Reads the words of the image's bytes that may be magics.
+fn read_all_words(bytes: &[u8], words: &mut [u8])
+    requires small { length bytes.now < 2 ^ 32 }
+    requires words { length words.old ≡ 12 * (length bytes.now / 4096) }
+    ensures { HasWords bytes.now words.new }
+{
+    let mut image = Image::new(bytes, UNIT);
+    // (an image never fails)
+    let _read = read_words(&mut image, words);
+}
+
+// How many volumes these words tell, and at most so many.
+fn count_candidates(words: &[u8], most: u32) -> u32
+    requires few { length words.now ≤ 12 * 2 ^ 20 }
+    requires whole { length words.now % 12 ≡ 0 }
+{
+    let mut from = 0;
+    for count in 0..most {
+        match next_candidate(words, from) {
+            Some((place, _)) => from = place.saturating_add(1),
+            None => return count,
+        }
+    }
+    most
+}
+
+/// Whether a file of so many bytes may hold a volume, by the words of it that may be magics. It is read in small pieces. One that can't be read
+/// may, since that is told as it is read again.
+pub fn may_hold_one(rt: &HostRuntime, held: &HeldFile, size: u32) -> Result<bool, Refusal> {
+    let mut chips = Vec::new(rt.alloc());
+    chips.push(held.chip(size, 1)).map_err(AllocError::from)?;
+    let Ok(mut row) = ChipRow::new(chips, size, 1) else {
+        return Ok(false);
+    };
+    let mut words = vec![in rt.alloc(); 0u8; words_need(row.size()) as usize]?;
+    let read = read_words(&mut row, &mut words);
+    Ok(read.is_err() || next_candidate(&words, 0).is_some())
+}
+
+/// The volumes that the bytes of a file may hold, in the order of their places; none where they are too many bytes for a chip.
+pub fn found_in(alloc: Global, bytes: &[u8]) -> Result<Vec<Found>, AllocError> {
+    let (Ok(size), Ok(place)) = (u32::try_from(bytes.len()), blank_place()) else {
+        return Ok(Vec::new(alloc));
+    };
+    let mut words = vec![in alloc; 0u8; words_need(size) as usize]?;
+    read_all_words(bytes, &mut words);
+    let most = count_candidates(&words, found_need(size));
+    let mut found = vec![in alloc; place; most as usize]?;
+    let mut work = vec![in alloc; 0u8; WORK]?;
+    let mut check = vec![in alloc; 0u8; CHECK]?;
+    // (there are no more candidates than were counted)
+    let count = collect(bytes, &words, &mut work, &mut check, &mut found).unwrap_or(0);
+    found.truncate(count);
+    Ok(found)
 }

@@ -1,7 +1,6 @@
 //! A command of the top call on one chip: the image's file, a part of it, or a copy in memory. What it says is held back until it has ended.
-use crate::detect::tell_found;
 use crate::look::{Seen, look_on};
-use crate::meant::Meant;
+use crate::meant::{Meant, tell_found_in};
 use crate::stop::Stop;
 use crate::{
     BOARD_FAULT, Memory, NO_VOLUME, OTHER_META, Refusal, explain, explain_damaged, explain_removed,
@@ -10,14 +9,18 @@ use crate::{
 use chip_row::ChipRow;
 use folder_core::Folder;
 use front_edge::{CopyErr, HostChip, PartChip, copy_of};
-use host_edge::{Access, StdBoard, StdSource, Trouble};
+use front_words::{Word, top_words};
+use host_edge::{Shown, StdBoard, StdFolder, StdSource, Trouble};
 use nor_core::{Failed, Nor};
 use nor_memory::MemChip;
 use std::alloc::AllocError;
-use std::io;
 use std::io::Write;
+use std::{io, str};
 use tool_core::{is_accepted, spiffs_tool};
 use tool_parts::{Ending, closing_line};
+
+/// The most damaged ids that are told.
+const TOLD: usize = 10;
 
 /// Whether another META is tried before a command.
 #[derive(Clone, Copy, Debug, PartialEq, Eq)]
@@ -47,21 +50,17 @@ pub struct Told<C: HostChip> {
     pub guard: Guard,
 }
 
-/// The part of the image's file that the volume is.
-pub fn chip_file(rt: &HostRuntime, meant: &Meant<'_>, access: Access) -> PartChip {
-    PartChip::new(
-        rt,
-        meant.image,
-        access,
-        meant.volume.at,
-        meant.size,
-        meant.unit,
-    )
+/// The part of the image's file that the volume is. An image that is to be made has no file.
+pub fn chip_file(meant: &Meant<'_>) -> Result<PartChip, Stop> {
+    match &meant.held {
+        Some(held) => Ok(PartChip::over(held, meant.volume.at, meant.size, meant.unit)),
+        None => Err(Stop::Status(BOARD_FAULT)),
+    }
 }
 
-/// A copy of that part in memory. The file is opened for reading alone.
+/// A copy of that part in memory.
 pub fn chip_copy(rt: &HostRuntime, meant: &Meant<'_>) -> Result<MemChip, Stop> {
-    let mut part = chip_file(rt, meant, Access::Read);
+    let mut part = chip_file(meant)?;
     match copy_of(rt.alloc(), &mut part, meant.unit) {
         Ok(copy) => Ok(copy),
         Err(CopyErr::Chip) => {
@@ -75,7 +74,7 @@ pub fn chip_copy(rt: &HostRuntime, meant: &Meant<'_>) -> Result<MemChip, Stop> {
 /// Says on standard error what failed of the image.
 pub fn explain_image(rt: &HostRuntime, meant: &Meant<'_>, trouble: Option<&Trouble>) {
     if let Some(trouble) = trouble {
-        let image = meant.image;
+        let image = Shown(meant.image);
         // (if standard error fails too there is nobody to tell)
         let _said = eprintln!(rt; "spiffs: {image}: {trouble}");
     }
@@ -110,6 +109,70 @@ fn look<C: HostChip>(
     look_on(&meant.top, meant.asked.is_forced, removes, board, &mut bufs)
 }
 
+// Whether damaged files would be removed for good, and nothing says that they may be.
+fn is_harmed(meant: &Meant<'_>, guard: Guard, seen: Option<Seen>) -> bool {
+    if meant.asked.is_forced || !matches!(guard, Guard::Removes | Guard::Rehearses) {
+        return false;
+    }
+    meant.is_harmed || seen.is_some_and(|seen| seen.damaged > 0)
+}
+
+// Says on standard error which ids are damaged, by the lines of a list.
+fn tell_damaged(rt: &HostRuntime, meant: &Meant<'_>, listed: &[u8]) {
+    let image = Shown(meant.image);
+    // (if standard error fails too there is nobody to tell)
+    let _said = eprintln!(rt;
+        "spiffs: {image}: ids are damaged, and what is left of their files would be removed for good; nothing was written; with --force it is:"
+    );
+    let mut count = 0usize;
+    for line in listed.split(|byte| *byte == b'\n') {
+        if !line.starts_with(b"damaged ") {
+            continue;
+        }
+        if count < TOLD {
+            let text = str::from_utf8(line).unwrap_or("");
+            let _said = eprintln!(rt; "spiffs: {text}");
+        }
+        count = count.saturating_add(1);
+    }
+    let others = count.saturating_sub(TOLD);
+    if others > 0 {
+        let _said = eprintln!(rt; "spiffs: and {others} others: spiffs ls {image}");
+    }
+}
+
+// Ends a command that would remove damaged files: they are told, and nothing is written.
+fn refuse_harmed<C: HostChip>(
+    rt: &HostRuntime,
+    meant: &Meant<'_>,
+    board: StdBoard<Vec<u8>, C>,
+    memory: &mut Memory,
+    seen: Option<Seen>,
+    guard: Guard,
+) -> Result<Told<C>, Refusal> {
+    let words = top_words(rt.alloc(), Word::Ls, &meant.volume, meant.image)?;
+    let mut board = board;
+    let nothing: &[u8] = b"";
+    let mut script = StdSource::new(nothing);
+    let mut folder = StdFolder::unlisted(rt, rt.alloc());
+    let mut bufs = memory.lend();
+    let listed = spiffs_tool(&words, &mut board, &mut script, &mut folder, &mut bufs);
+    let (row, said) = board.give_back();
+    let status = if listed == BOARD_FAULT {
+        listed
+    } else {
+        tell_damaged(rt, meant, said.as_slice());
+        OTHER_META
+    };
+    Ok(Told {
+        status,
+        said: Vec::new(rt.alloc()),
+        row,
+        seen,
+        guard,
+    })
+}
+
 /// Gives the command of the top call that a line means, on a row of one chip, with a script and a folder.
 pub fn give_on<C: HostChip, F: Folder>(
     rt: &HostRuntime,
@@ -123,9 +186,13 @@ pub fn give_on<C: HostChip, F: Folder>(
     let mut board = StdBoard::new(row, Vec::new(rt.alloc()));
     let looked = look(meant, guard, &mut board, memory);
     let seen = looked.unwrap_or(None);
+    let is_better = is_refused(rt, seen);
+    if looked.is_ok() && !is_better && is_harmed(meant, guard, seen) {
+        return refuse_harmed(rt, meant, board, memory, seen, guard);
+    }
     let status = if looked.is_err() {
         BOARD_FAULT
-    } else if is_refused(rt, seen) {
+    } else if is_better {
         OTHER_META
     } else {
         let mut script = StdSource::new(script);
@@ -160,7 +227,7 @@ pub fn explain_told<C: HostChip>(rt: &HostRuntime, meant: &Meant<'_>, told: &Tol
         Guard::Foretells => explain_damaged(rt, told.seen),
     }
     if told.status == NO_VOLUME {
-        tell_found(rt, &meant.top);
+        tell_found_in(rt, meant);
     }
 }
 

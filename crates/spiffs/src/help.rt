@@ -54,8 +54,9 @@ spiffs: a SPIFFS 0.3.7 flash volume in a chip file, or in several end to end
       nothing
       spiffs rehearse 256 4096 16 0 len chip < script
   spiffs --force COMMAND ..
-      goes on where another META reads more whole files; COMMAND is run, check,
-      scrub, map, copy, trace or rehearse
+      goes on where another META or number of BLOCKS reads more whole files, or
+      the file is too short; COMMAND is run, check, scrub, map, copy, trace or
+      rehearse
   spiffs ls IMAGE
       tells the files of a volume; writes nothing
       spiffs ls image
@@ -71,7 +72,8 @@ spiffs: a SPIFFS 0.3.7 flash volume in a chip file, or in several end to end
       made; what is no path is put aside, in a folder of its own
       spiffs unpack image files
   spiffs fsck IMAGE [--repair]
-      checks a copy of the volume in memory, or with `--repair` the file
+      checks a copy of the volume in memory, or with `--repair` mends the image;
+      damaged files are told, and removed with `--force` alone
       spiffs fsck image --repair
   spiffs cat IMAGE NAME
       prints the bytes of a file
@@ -110,15 +112,28 @@ left out is found in the image. `pack` and `gen` take those of ESP-IDF.
   --at N            the byte of the file at which the volume begins
   --for MAKER       numbers of esp-idf, arduino-esp32 or mkspiffs
   --dry-run         reads alone: changes are tried in memory
-  --repair          of `fsck`: mends the file
+  --repair          of `fsck`: mends the image
   --svg             of `picture`: a drawing for a browser
-  --force           goes on where another META reads more whole files
+  --force           goes on where other numbers read more whole files, or where
+                    damaged files are removed for good
+  --raw-names       of `unpack`: takes names with control characters, too
 
 N is a number below 2^32: digits, the same with K or M behind, or `0x` and
 hexadecimal digits. Options and -c, -u, -l, -i of mkspiffs and options of
 spiffsgen.py are taken, or refused by name. In a NAME `%` and two hexadecimal
-digits stand for a byte. `put`, `rm` and `mv` try all calls on a copy in memory
-first: the file is only written if none is refused.
+digits stand for a byte.
+
+`put`, `rm` and `mv` try all calls on a copy in memory first: nothing is written
+if one is refused. A plain file that holds the volume and nothing else is then
+replaced by a new file: a cut leaves the old one or the new one. In a dump and
+on a device the volume is changed in place. `pack`, `gen`, `make` and `fsck
+--repair` do the same.
+
+`put`, `rm`, `mv` and `fsck --repair`, where not all numbers are given, go on if
+one volume is meant: no other that is found reads files that it does not, at
+most one of its blocks lacks its magic, and it cannot be two end to end, unless
+`--size` is given. Else nothing is written, and standard error shows each volume
+by the options that choose it. What only reads takes the best one, and says so.
 
   PAGE    bytes of a page, a power of two from 128 to 4096
   BLOCK   bytes of a block, a multiple of PAGE
@@ -219,7 +234,10 @@ has the one byte 1 for its name.
 
 A detection is a line `at OFFSET page P block B blocks N meta M magic KIND files
 F damaged D` for each volume that the file may hold: OFFSET is its first byte, M
-the META that reads most whole files, or `M1-M2` where several read as many.
+the META that reads most whole files, or `M1-M2` where several read as many. At
+its end stands `spoiled N` where two or more blocks lack their magic, and
+`doubled N` where two or more ids have two headers, as where two volumes stand
+end to end.
 
 A trace is a line `legal E events R replies`: programs, erases and prints, each
 of which leaves what a power cut may leave, and whole replies.
@@ -243,9 +261,11 @@ not legal, or the chip holds no volume; 20 a volume of more than 131072 bytes,
 or a script of more than 16384, is not traced; 21 a page does not read as it was
 written; 22 the chips make no row, or a copy's volumes share one; 23 `run`,
 `check`, `scrub`, `map`, `copy`, `trace` or `rehearse`: ids are damaged on the
-volume, of a copy on the target, and another META reads more whole files,
-nothing was written; 24 a promise is broken; 25 a call
-of `cat`, `put`, `rm` or `mv` is refused. Standard error tells more of statuses
-1, 3, 4, 7, 8, 9, 13, 18, 22, 23 and 25, what a traced run ended with, what
-`make` passed over, and how many damaged files were removed.
+volume, of a copy on the target, and another META or number of BLOCKS reads more
+whole files, or the file is shorter than the volume; or `put`, `rm`, `mv`, `fsck
+--repair`: damaged files would be removed, or several volumes may be meant;
+nothing was written; 24 a promise is broken; 25 a call of `cat`, `put`, `rm` or
+`mv` is refused; 26 another program has the file. Standard error tells more of
+statuses 1, 3, 4, 7, 8, 9, 13, 18, 22, 23, 25 and 26, what a traced run ended
+with, what `make` passed over, and how many damaged files were removed.
 ";

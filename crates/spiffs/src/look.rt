@@ -14,6 +14,8 @@ use vol_mount::{MountErr, ReaderLent, accept_reader, mount};
 pub struct Seen {
     /// How many ids are damaged.
     pub damaged: u32,
+    /// How many files are whole, where ids are damaged.
+    pub whole: u32,
     /// Where another META reads more whole files.
     pub better: Option<Better>,
 }
@@ -106,6 +108,7 @@ fn seen_by(given: u32, guess: Guess, removes: bool) -> Seen {
     };
     Seen {
         damaged: guess.given.damaged,
+        whole: guess.given.whole,
         better,
     }
 }
@@ -125,6 +128,7 @@ fn look_at<N: Nor>(
         let counts = count_files(g, nor, lent.work, lent.cache, lent.check)?;
         return Ok(Some(Seen {
             damaged: counts.damaged,
+            whole: counts.whole,
             better: None,
         }));
     }
@@ -133,6 +137,7 @@ fn look_at<N: Nor>(
         Some(guess) => seen_by(g.meta(), guess, removes),
         None => Seen {
             damaged: 0,
+            whole: 0,
             better: None,
         },
     }))

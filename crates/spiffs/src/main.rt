@@ -5,15 +5,19 @@
 #![tactic(auto)]
 
 mod cat;
+mod chips;
 mod copying;
 mod detect;
 mod front;
 mod give;
+mod guard;
 mod help;
 mod look;
+mod making;
 mod meant;
 mod picture;
 mod room;
+mod save;
 mod script;
 mod stop;
 mod store;
@@ -22,25 +26,29 @@ mod trees;
 mod usage;
 mod words;
 
-use chip_row::ChipRow;
+use chips::{BUSY, begin_board, check_free, check_names, end_row, row_of};
 use copying::begin_copy;
 use detect::{detect_board, detect_on, tell_found};
 use fd_table::FdSlot;
 use front::begin_front;
 use front_words::is_own;
+use guard::is_stopped;
 use help::{HELP, VERSION};
-use host_edge::{Access, FileChip, StdBoard, StdFolder, StdSource, Trouble};
+use host_edge::{
+    Bounds, FileChip, FileId, HeldFile, Shown, SizeLimit, StdBoard, StdFolder, StdSource, Trouble,
+};
 use look::{Seen, look_before};
-use nor_core::{Failed, MemErr};
+use making::{Target, make_whole, target_of};
+use nor_core::MemErr;
 use rehearse_tool::rehearse_tool;
 use std::alloc::{AllocError, Global};
 use std::fs::File;
-use std::io::Write;
+use std::io::{Read, Write};
 use std::process::ExitCode;
 use std::rt::Env;
 use std::{env, fs, io};
-use tool_core::{is_accepted, spiffs_tool};
-use tool_parts::{Buffers, chip_size_of, unit_of};
+use tool_core::spiffs_tool;
+use tool_parts::{Buffers, chip_size_of};
 use trace::trace_on;
 use usage::wrong_word;
 use words::{FOLDER_WORD, chip_word, detects, foretells, is_guarded, word};
@@ -165,6 +173,8 @@ enum Refusal {
     Memory,
     /// The chips make no row.
     Chips,
+    /// All is said, and this is the status.
+    Told(u8),
 }
 
 impl From<AllocError> for Refusal {
@@ -179,55 +189,16 @@ impl From<MemErr> for Refusal {
     }
 }
 
-// What the chip files are opened for: what writes nothing takes files that are for reading alone, and what formats them
-// makes them, where the words, the chips and the lent memory are taken.
-fn access_of(words: &[String], is_taken: bool) -> Access {
-    match word(words, 0) {
-        "list" | "extract" | "trace" | "rehearse" => Access::Read,
-        "soak" | "make" if is_taken => Access::Create,
-        _ => Access::Write,
-    }
-}
-
-// The names of chip files, which stand in one word, parted by commas.
-fn chip_paths(alloc: Global, names: &str) -> Result<Vec<&str>, AllocError> {
-    names.split(',').collect(alloc)
-}
-
-// The row of the chip files, opened as the command needs it.
-fn row_of(
-    rt: &HostRuntime,
-    words: &[String],
-    bufs: &Buffers<'_>,
-) -> Result<ChipRow<FileChip>, Refusal> {
-    let paths = chip_paths(rt.alloc(), chip_word(words))?;
-    let number = u32::try_from(paths.len()).unwrap_or(u32::MAX).max(1);
-    let bytes = chip_size_of(words, number).checked_mul(number);
-    let is_taken = bytes.is_some_and(|bytes| is_accepted(words, unit_of(words), bytes, bufs));
-    let access = access_of(words, is_taken);
-    open_row(rt, words, chip_word(words), access)
-}
-
-// The row of the chip files of these names, opened so, for the numbers behind the first word.
-fn open_row(
-    rt: &HostRuntime,
-    words: &[String],
-    names: &str,
-    access: Access,
-) -> Result<ChipRow<FileChip>, Refusal> {
-    let paths = chip_paths(rt.alloc(), names)?;
-    let number = u32::try_from(paths.len()).unwrap_or(u32::MAX).max(1);
-    let size = chip_size_of(words, number);
-    let unit = unit_of(words);
+// What no file of the folder may be: the chip files, as far as they are there; and how large it may become.
+fn bounds_of(rt: &HostRuntime, words: &[String]) -> Result<Bounds, AllocError> {
     let mut chips = Vec::new(rt.alloc());
-    for path in paths {
-        let chip = FileChip::new(rt, path, access, size, unit);
-        chips.push(chip).map_err(AllocError::from)?;
+    for path in chip_word(words).split(',') {
+        if let Ok(id) = FileId::at(rt, path) {
+            chips.push(id)?;
+        }
     }
-    match ChipRow::new(chips, size, unit) {
-        Ok(row) => Ok(row),
-        Err(_) => Err(Refusal::Chips),
-    }
+    let limit = SizeLimit::of(rt);
+    Ok(Bounds { chips, limit })
 }
 
 // The folder that is written or read; another command asks for none, and none is listed then.
@@ -235,10 +206,16 @@ fn folder_of<'r>(
     rt: &'r HostRuntime,
     words: &[String],
 ) -> Result<StdFolder<&'r HostRuntime>, Refusal> {
-    match word(words, 0) {
-        "extract" | "make" => Ok(StdFolder::new(rt, rt.alloc(), word(words, FOLDER_WORD))?),
-        _ => Ok(StdFolder::unlisted(rt, rt.alloc())),
+    let verb = word(words, 0);
+    if !matches!(verb, "extract" | "make") {
+        return Ok(StdFolder::unlisted(rt, rt.alloc()));
     }
+    let path = word(words, FOLDER_WORD);
+    let mut folder = StdFolder::within(rt, rt.alloc(), path, bounds_of(rt, words)?)?;
+    if verb == "make" {
+        folder.refuse_chips();
+    }
+    Ok(folder)
 }
 
 // Says on standard error what failed, if anything did.
@@ -249,15 +226,19 @@ fn explain(rt: &impl Eprint, trouble: Option<&Trouble>) {
     }
 }
 
+// Says on standard error what failed of a file of the host.
+fn explain_path(rt: &impl Eprint, path: &str, trouble: &Trouble) {
+    let path = Shown(path);
+    // (if standard error fails too there is nobody to tell)
+    let _said = eprintln!(rt; "spiffs: {path}: {trouble}");
+}
+
 // Says on standard error which chip file failed and why, by its number among the names, or why nothing more could be said.
 fn explain_chip(rt: &HostRuntime, names: &str, chip: Option<usize>, trouble: Option<&Trouble>) {
     let mut paths = names.split(',');
     let path = chip.and_then(|i| paths.nth(i));
     match (path, trouble) {
-        (Some(path), Some(trouble)) => {
-            // (if standard error fails too there is nobody to tell)
-            let _said = eprintln!(rt; "spiffs: {path}: {trouble}");
-        }
+        (Some(path), Some(trouble)) => explain_path(rt, path, trouble),
         (_, trouble) => explain(rt, trouble),
     }
 }
@@ -303,7 +284,7 @@ fn explain_damaged(rt: &impl Eprint, seen: Option<Seen>) {
 // Says on standard error what of the folder was passed over, and what is wrong with a name.
 fn explain_folder<'r>(rt: &impl Eprint, folder: &StdFolder<&'r HostRuntime>, status: u8) {
     for passed in folder.passed_over() {
-        let path = passed.path.as_str();
+        let path = Shown(passed.path.as_str());
         let kind = if passed.is_folder {
             "folder"
         } else {
@@ -315,6 +296,13 @@ fn explain_folder<'r>(rt: &impl Eprint, folder: &StdFolder<&'r HostRuntime>, sta
         if let Some(bad) = folder.bad_name() {
             let _said = eprintln!(rt; "spiffs: {bad}");
         }
+    }
+}
+
+// Says on standard error what failed of the folder, and on which path.
+fn explain_folder_fault<'r>(rt: &impl Eprint, folder: &StdFolder<&'r HostRuntime>) {
+    if let Some(trouble) = folder.trouble() {
+        explain_path(rt, folder.failed_path(), trouble);
     }
 }
 
@@ -352,6 +340,42 @@ fn is_refused(rt: &impl Eprint, seen: Option<Seen>) -> bool {
     true
 }
 
+// Says on standard error what the one who gave the words has to know of how a command ended.
+fn explain_end<'r, W: Write + Drop, R: Read + Drop>(
+    rt: &HostRuntime,
+    words: &[String],
+    status: u8,
+    board: &StdBoard<W, FileChip>,
+    script: &StdSource<R>,
+    folder: &StdFolder<&'r HostRuntime>,
+) {
+    match status {
+        BOARD_FAULT => explain_board(rt, words, board),
+        SCRIPT_FAULT => explain(rt, script.trouble()),
+        FOLDER_FAULT => explain_folder_fault(rt, folder),
+        0 | FULL | BAD_NAME if word(words, 0) == "make" => explain_folder(rt, folder, status),
+        _ => explain_status(rt, words, status),
+    }
+}
+
+// Looks at the volume before a command, and answers what it held, unless the command is stopped.
+fn look_first<W: Write + Drop>(
+    rt: &HostRuntime,
+    words: &[String],
+    is_forced: bool,
+    board: &mut StdBoard<W, FileChip>,
+    bufs: &mut Buffers<'_>,
+) -> Result<Option<Seen>, Refusal> {
+    let Ok(seen) = look_before(words, is_forced, board, bufs) else {
+        explain_board(rt, words, board);
+        return Err(Refusal::Told(BOARD_FAULT));
+    };
+    if is_stopped(rt, words, chip_word(words), is_forced, seen, board)? {
+        return Err(Refusal::Told(OTHER_META));
+    }
+    Ok(seen)
+}
+
 // Runs the command that the words spell, over the chip files and the folder that they name.
 fn run(
     rt: &HostRuntime,
@@ -360,17 +384,9 @@ fn run(
     memory: &mut Memory,
 ) -> Result<u8, Refusal> {
     let mut bufs = memory.lend();
-    let mut board = StdBoard::new(row_of(rt, words, &bufs)?, rt.stdout());
-    let seen = match look_before(words, is_forced, &mut board, &mut bufs) {
-        Ok(seen) => seen,
-        Err(Failed) => {
-            explain_board(rt, words, &board);
-            return Ok(BOARD_FAULT);
-        }
-    };
-    if is_refused(rt, seen) {
-        return Ok(OTHER_META);
-    }
+    check_names(rt, words, chip_word(words))?;
+    let mut board = begin_board(rt, words, row_of(rt, words, &bufs)?, rt.stdout())?;
+    let seen = look_first(rt, words, is_forced, &mut board, &mut bufs)?;
     let mut script = StdSource::new(rt.stdin());
     let mut folder = folder_of(rt, words)?;
     let status = match word(words, 0) {
@@ -378,34 +394,60 @@ fn run(
         "rehearse" => rehearse_tool(rt.alloc(), words, &mut board, &mut script, &mut bufs),
         _ => spiffs_tool(words, &mut board, &mut script, &mut folder, &mut bufs),
     };
-    match status {
-        BOARD_FAULT => explain_board(rt, words, &board),
-        SCRIPT_FAULT => explain(rt, script.trouble()),
-        FOLDER_FAULT => explain(rt, folder.trouble()),
-        0 | FULL | BAD_NAME if word(words, 0) == "make" => explain_folder(rt, &folder, status),
-        _ => explain_status(rt, words, status),
-    }
+    explain_end(rt, words, status, &board, &script, &folder);
     if foretells(words) {
         explain_damaged(rt, seen);
     } else {
         explain_removed(rt, seen, status);
     }
+    let status = end_row(rt, chip_word(words), board.finish(), status);
+    // (its lock is let go, since the file is opened again)
+    drop(board);
     if status == NO_VOLUME {
         tell_found(rt, words);
     }
     Ok(status)
 }
 
+// Makes a volume in memory and then its file, which is held if it is there, and answers the status.
+fn make(
+    rt: &HostRuntime,
+    words: &[String],
+    held: Option<&HeldFile>,
+    memory: &mut Memory,
+) -> Result<u8, Refusal> {
+    let mut folder = folder_of(rt, words)?;
+    let mut bufs = memory.lend();
+    let status = make_whole(rt, words, held, &mut folder, &mut bufs)?;
+    match status {
+        FOLDER_FAULT => explain_folder_fault(rt, &folder),
+        0 | FULL | BAD_NAME => explain_folder(rt, &folder, status),
+        BOARD_FAULT | BUSY => {}
+        _ => explain_status(rt, words, status),
+    }
+    Ok(status)
+}
+
+// Makes a volume: in memory where its file is a plain one, else in place.
+fn begin_make(rt: &HostRuntime, words: &[String], memory: &mut Memory) -> Result<u8, Refusal> {
+    match target_of(rt, words, &memory.lend())? {
+        Target::Whole(held) => make(rt, words, held.as_ref(), memory),
+        Target::InPlace => run(rt, words, false, memory),
+    }
+}
+
 // Says which volumes the chip files may hold.
 fn find_volumes(rt: &HostRuntime, words: &[String]) -> Result<u8, Refusal> {
+    check_names(rt, words, chip_word(words))?;
     let mut board = detect_board(rt, words, rt.stdout())?;
+    check_free(rt, words, chip_word(words), board.busy_chip())?;
     let status = detect_on(rt, words, &mut board)?;
     match status {
         BOARD_FAULT => explain_board(rt, words, &board),
         NO_VOLUME => {}
         _ => explain_status(rt, words, status),
     }
-    Ok(status)
+    Ok(end_row(rt, chip_word(words), board.finish(), status))
 }
 
 // Three descriptors that read nothing. Held from the start on, they stand in the place of standard streams
@@ -456,6 +498,9 @@ fn begin(rt: &HostRuntime, words: &[String], is_forced: bool) -> Result<u8, Refu
         return find_volumes(rt, words);
     }
     let mut memory = take_memory(rt, words)?;
+    if word(words, 0) == "make" {
+        return begin_make(rt, words, &mut memory);
+    }
     run(rt, words, is_forced, &mut memory)
 }
 
@@ -496,6 +541,7 @@ fn start(rt: &HostRuntime) -> u8 {
         Ok(status) => status,
         Err(Refusal::Memory) => tell(rt, "! memory\n", 15),
         Err(Refusal::Chips) => tell(rt, "! chips\n", 22),
+        Err(Refusal::Told(status)) => status,
     }
 }
 

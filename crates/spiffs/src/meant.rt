@@ -1,27 +1,22 @@
 //! Which volume a line of the front means.
-ghost use Rattle.std.specs.Prelude.{◌≡◌, ◌*◌, ◌/◌, ◌<◌, ◌^◌, length};
-ghost use Rattle.volume_detect.specs.Words.{HasWords};
-
-use crate::detect::{CHECK, WORK, tell_found_in};
+use crate::chips::BUSY;
+use crate::detect::{PLACES, found_in, may_hold_one};
 use crate::stop::Stop;
-use crate::{BOARD_FAULT, NO_VOLUME, Refusal, USAGE, tell};
-use chip_row::Chip;
-use detect_tool::{blank_place, found_need};
-use front_edge::{HostChip, PartChip};
+use crate::{BOARD_FAULT, NO_VOLUME, OTHER_META, USAGE, tell};
 use front_words::{
-    Asked, Candidate, Unsettled, Volume, Word, image_word, settle, top_words, wants_detect,
+    Asked, Candidate, Unsettled, Volume, Word, choose_sure, image_word, settle, top_words,
+    wants_detect,
 };
-use host_edge::{Access, Trouble};
-use nor_core::Failed;
-use nor_image::Image;
+use geometry::MagicKind;
+use host_edge::{Access, HeldFile, Shown, Trouble};
 use std::alloc::{AllocError, Global};
 use std::{fs, str};
 use tool_parts::{chip_size_of, unit_of};
-use volume_detect::{UNIT, byte_of, read_words, words_need};
-use volume_rank::{Found, collect, next_best};
+use volume_detect::byte_of;
+use volume_rank::{Found, next_best};
 
-/// The number of places at which a volume may begin in the largest file.
-const PLACES: u32 = 88_080_384;
+/// The most volumes that are told where it isn't known which is meant.
+const TOLD: usize = 10;
 
 /// A line of the front, the volume that it means, and the line of the top call for it.
 #[derive(Drop)]
@@ -32,6 +27,8 @@ pub struct Meant<'w> {
     pub asked: Asked,
     /// The path of the image.
     pub image: &'w str,
+    /// Its file, which is open until the line has ended; none where it is to be made.
+    pub held: Option<HeldFile>,
     /// The volume.
     pub volume: Volume,
     /// The words of the top call, but for the folder.
@@ -40,6 +37,8 @@ pub struct Meant<'w> {
     pub size: u32,
     /// Bytes of an erase unit.
     pub unit: u32,
+    /// Whether the line would remove damaged files for good that were found, and doesn't say that it may.
+    pub is_harmed: bool,
 }
 
 /// A word as text; empty where there is none.
@@ -52,6 +51,7 @@ pub fn text_of(word: Option<&[u8]>) -> &str {
 
 /// Says what failed of a file of the host, and answers that status.
 pub fn fail(rt: &HostRuntime, path: &str, trouble: &Trouble, status: u8) -> Stop {
+    let path = Shown(path);
     // (if standard error fails too there is nobody to tell)
     let _said = eprintln!(rt; "spiffs: {path}: {trouble}");
     Stop::Status(status)
@@ -60,6 +60,7 @@ pub fn fail(rt: &HostRuntime, path: &str, trouble: &Trouble, status: u8) -> Stop
 // Says that what stands in the place of the image is a folder, and answers the status.
 fn refuse_folder(rt: &HostRuntime, image: &str) -> Stop {
     let status = tell(rt, "! usage\n", USAGE);
+    let image = Shown(image);
     // (if standard error fails too there is nobody to tell)
     let _said = eprintln!(rt;
         "spiffs: {image}: is a folder, and no image; the forms are pack FOLDER IMAGE and unpack IMAGE FOLDER"
@@ -67,49 +68,61 @@ fn refuse_folder(rt: &HostRuntime, image: &str) -> Stop {
     Stop::Status(status)
 }
 
-// How many bytes the image has. One that is to be made may be missing.
-fn length_of(rt: &HostRuntime, image: &str, word: Word) -> Result<u64, Stop> {
+// Whether a word makes an image.
+fn makes(word: Word) -> bool {
+    matches!(word, Word::Pack | Word::Gen)
+}
+
+// Whether a line writes to the volume of an image.
+fn writes(asked: &Asked) -> bool {
+    match asked.word {
+        Word::Put | Word::Rm | Word::Mv => true,
+        Word::Fsck => asked.repairs,
+        _ => false,
+    }
+}
+
+// What the image's file is opened for.
+fn access_of(asked: &Asked) -> Access {
+    if !asked.is_dry && (writes(asked) || makes(asked.word)) {
+        Access::Write
+    } else {
+        Access::Read
+    }
+}
+
+/// Says why the image's file can't be had or replaced, and answers the status.
+pub fn refuse_image(rt: &HostRuntime, image: &str, why: &Trouble) -> Stop {
+    if why.is_busy() {
+        let status = tell(rt, "! busy\n", BUSY);
+        return fail(rt, image, why, status);
+    }
+    fail(rt, image, why, BOARD_FAULT)
+}
+
+// Opens the image's file. One that is to be made may be missing.
+fn hold_image(rt: &HostRuntime, image: &str, asked: &Asked) -> Result<Option<HeldFile>, Stop> {
     match fs::metadata(rt, image) {
-        Ok(told) if told.is_dir() => Err(refuse_folder(rt, image)),
-        Ok(told) => Ok(told.len()),
-        Err(_) if matches!(word, Word::Pack | Word::Gen) => Ok(0),
-        Err(why) => Err(fail(rt, image, &Trouble::Open(why), BOARD_FAULT)),
+        Ok(told) if told.is_dir() => return Err(refuse_folder(rt, image)),
+        Err(_) if makes(asked.word) => return Ok(None),
+        _ => {}
+    }
+    match HeldFile::open(rt, image, access_of(asked)) {
+        Ok(held) => Ok(Some(held)),
+        Err(why) => Err(refuse_image(rt, image, &why)),
     }
 }
 
 // All bytes of the image.
-fn bytes_of(rt: &HostRuntime, image: &str, length: u32) -> Result<Vec<u8>, Stop> {
+fn bytes_of(rt: &HostRuntime, image: &str, held: &HeldFile, length: u32) -> Result<Vec<u8>, Stop> {
     let mut bytes = vec![in rt.alloc(); 0u8; length as usize]?;
     if bytes.is_empty() {
         return Ok(bytes);
     }
-    let mut part = PartChip::new(rt, image, Access::Read, 0, length, 1);
-    if let Err(Failed) = read_front(&mut part, &mut bytes) {
-        if let Some(trouble) = part.trouble() {
-            return Err(fail(rt, image, trouble, BOARD_FAULT));
-        }
-        return Err(Stop::Status(BOARD_FAULT));
+    match held.read_at(0, &mut bytes) {
+        Ok(()) => Ok(bytes),
+        Err(why) => Err(fail(rt, image, &why, BOARD_FAULT)),
     }
-    Ok(bytes)
-}
-
-// Reads the first bytes of a chip.
-fn read_front<C: Chip>(chip: &mut C, into: &mut [u8]) -> Result<(), Failed> {
-    if into.is_empty() || into.len() > chip.size() as usize {
-        return Err(Failed);
-    }
-    chip.read(0, into)
-}
-
-// Reads the words of the image's bytes that may be magics.
-fn read_all_words(bytes: &[u8], words: &mut [u8])
-    requires small { length bytes.now < 2 ^ 32 }
-    requires words { length words.old ≡ 12 * (length bytes.now / 4096) }
-    ensures { HasWords bytes.now words.new }
-{
-    let mut image = Image::new(bytes, UNIT);
-    // (an image never fails)
-    let _read = read_words(&mut image, words);
 }
 
 // A volume that was found, as `settle` is told it.
@@ -127,6 +140,8 @@ fn candidate_of(found: &Found) -> Option<Candidate> {
         magic: found.volume.magic,
         whole: found.counts.whole,
         damaged: found.counts.damaged,
+        spoiled: found.spoiled,
+        doubled: found.doubled,
     })
 }
 
@@ -146,23 +161,17 @@ fn ranked(alloc: Global, found: &[Found]) -> Result<Vec<Candidate>, AllocError> 
     Ok(candidates)
 }
 
-// The volumes that the bytes of a file may hold, the best first.
-fn candidates_in(alloc: Global, bytes: &[u8], size: u32) -> Result<Vec<Candidate>, Stop>
-    requires { length bytes.now ≡ size }
-{
-    let Ok(place) = blank_place() else {
-        return Err(Stop::Refusal(Refusal::Memory));
+// The volumes that the image may hold, the best first; none of one that has 2^32 bytes or more.
+fn look_for(rt: &HostRuntime, image: &str, held: &HeldFile) -> Result<Vec<Candidate>, Stop> {
+    let Ok(size) = u32::try_from(held.length()) else {
+        return Ok(Vec::new(rt.alloc()));
     };
-    let mut words = vec![in alloc; 0u8; words_need(size) as usize]?;
-    let mut work = vec![in alloc; 0u8; WORK]?;
-    let mut check = vec![in alloc; 0u8; CHECK]?;
-    let mut found = vec![in alloc; place; found_need(size) as usize]?;
-    read_all_words(bytes, &mut words);
-    match collect(bytes, &words, &mut work, &mut check, &mut found) {
-        Ok(count) => Ok(ranked(alloc, found.get(..count).unwrap_or(&[]))?),
-        // (there are no more candidates than places)
-        Err(_) => Ok(Vec::new(alloc)),
+    if !may_hold_one(rt, held, size)? {
+        return Ok(Vec::new(rt.alloc()));
     }
+    let bytes = bytes_of(rt, image, held, size)?;
+    let found = found_in(rt.alloc(), &bytes)?;
+    Ok(ranked(rt.alloc(), &found)?)
 }
 
 // The volumes that the image may hold, the best first; none is looked for where all numbers are known.
@@ -170,34 +179,174 @@ fn find_candidates(
     rt: &HostRuntime,
     image: &str,
     asked: &Asked,
-    length: u64,
+    held: Option<&HeldFile>,
 ) -> Result<Vec<Candidate>, Stop> {
-    if !wants_detect(asked) {
-        return Ok(Vec::new(rt.alloc()));
+    match held {
+        Some(held) if wants_detect(asked) => look_for(rt, image, held),
+        _ => Ok(Vec::new(rt.alloc())),
     }
-    let Ok(size) = u32::try_from(length) else {
-        return Ok(Vec::new(rt.alloc()));
+}
+
+// Says on standard error which volumes the image may hold, each by the words that choose it.
+fn tell_candidates(rt: &HostRuntime, image: &str, found: &[Candidate]) {
+    if found.is_empty() {
+        // (if standard error fails too there is nobody to tell)
+        let _said = eprintln!(rt; "spiffs: no volume");
+    }
+    for candidate in found.iter().take(TOLD) {
+        let _said = eprintln!(rt; "spiffs: {candidate}");
+    }
+    let others = found.len().saturating_sub(TOLD);
+    if others > 0 {
+        let image = Shown(image);
+        let _said = eprintln!(rt; "spiffs: and {others} others: spiffs detect {image}");
+    }
+}
+
+/// Says on standard error which volumes the image may hold, each by the words that choose it; nothing where there is no memory for it.
+pub fn tell_found_in(rt: &HostRuntime, meant: &Meant<'_>) {
+    let Some(held) = &meant.held else {
+        return;
     };
-    let bytes = bytes_of(rt, image, size)?;
-    if bytes.len() != size as usize {
-        return Ok(Vec::new(rt.alloc()));
+    if let Ok(found) = look_for(rt, meant.image, held) {
+        tell_candidates(rt, meant.image, &found);
     }
-    candidates_in(rt.alloc(), &bytes, size)
+}
+
+// The closing line and the status where it isn't known which volume is meant. Where a line that writes is in doubt there is no such line.
+fn end_of(asked: &Asked, why: Unsettled) -> (&'static str, u8) {
+    match why {
+        Unsettled::NoneFound => ("! no volume found\n", NO_VOLUME),
+        Unsettled::Spoiled(_) => ("! no volume\n", NO_VOLUME),
+        Unsettled::Doubled(_) | Unsettled::Harmed(_) => ("", OTHER_META),
+        Unsettled::Several if writes(asked) => ("", OTHER_META),
+        _ => ("! usage\n", USAGE),
+    }
+}
+
+// Whether it is told which volumes were found.
+fn tells_found(why: Unsettled) -> bool {
+    !matches!(
+        why,
+        Unsettled::NoSize | Unsettled::Uneven { .. } | Unsettled::TooFar { .. }
+    )
 }
 
 // Says why it isn't known which volume is meant, and answers the status.
-fn refuse_volume(rt: &HostRuntime, image: &str, why: Unsettled) -> Stop {
-    let (line, status) = match why {
-        Unsettled::NoneFound => ("! no volume found\n", NO_VOLUME),
-        _ => ("! usage\n", USAGE),
-    };
+fn refuse_volume(
+    rt: &HostRuntime,
+    image: &str,
+    asked: &Asked,
+    found: &[Candidate],
+    why: Unsettled,
+) -> Stop {
+    let (line, status) = end_of(asked, why);
     let status = tell(rt, line, status);
-    let _said = eprintln!(rt; "spiffs: {image}: {why}");
-    if let Unsettled::NoneFound | Unsettled::Several | Unsettled::AnyMeta = why {
+    let end = if writes(asked) {
+        "; nothing was written"
+    } else {
+        ""
+    };
+    let shown = Shown(image);
+    let _said = eprintln!(rt; "spiffs: {shown}: {why}{end}");
+    if tells_found(why) {
         let _said = eprintln!(rt; "spiffs: detect finds:");
-        tell_found_in(rt, image);
+        tell_candidates(rt, image, found);
     }
     Stop::Status(status)
+}
+
+// Why a line that writes would take another volume than one that reads, or none.
+fn doubt_of(asked: &Asked, found: &[Candidate], volume: &Volume) -> Option<Unsettled> {
+    match choose_sure(asked, found) {
+        Ok(sure) if sure == *volume => None,
+        Ok(_) => Some(Unsettled::Several),
+        Err(why) => Some(why),
+    }
+}
+
+// Says, where a line only reads, why one that writes would go no further.
+fn tell_doubt(rt: &HostRuntime, image: &str, asked: &Asked, found: &[Candidate], volume: &Volume) {
+    if writes(asked) || !wants_detect(asked) {
+        return;
+    }
+    if let Some(why) = doubt_of(asked, found, volume) {
+        let others = found.len().saturating_sub(1);
+        let image = Shown(image);
+        // (if standard error fails too there is nobody to tell)
+        let _said = eprintln!(rt;
+            "spiffs: {image}: the volume {volume} is read, and {others} others were found; a word that writes is refused: {why}; see spiffs detect {image}"
+        );
+    }
+}
+
+// The volume that a line means, and whether damaged files of it would be removed without leave.
+fn choose_volume(
+    rt: &HostRuntime,
+    image: &str,
+    asked: &Asked,
+    length: u64,
+    found: &[Candidate],
+) -> Result<(Volume, bool), Stop> {
+    let forced = Asked {
+        is_forced: true,
+        ..*asked
+    };
+    let settled = settle(asked, length, found);
+    let is_harmed = matches!(settled, Err(Unsettled::Harmed(_)));
+    let meant = if is_harmed {
+        settle(&forced, length, found)
+    } else {
+        settled
+    };
+    match meant {
+        Ok(volume) => {
+            tell_doubt(rt, image, asked, found, &volume);
+            Ok((volume, is_harmed))
+        }
+        Err(why) => Err(refuse_volume(rt, image, asked, found, why)),
+    }
+}
+
+// Whether a volume that was found has these numbers.
+fn has_numbers(found: &Candidate, volume: &Volume) -> bool {
+    found.at == volume.at
+        && found.page == volume.page
+        && found.block == volume.block
+        && found.blocks == volume.blocks
+        && found.magic == volume.magic
+}
+
+// Whether a line writes to a volume of plain magics, gives all numbers but the size, and so may mean two that stand end to end.
+fn may_mean_two(asked: &Asked, volume: &Volume) -> bool {
+    writes(asked)
+        && !wants_detect(asked)
+        && asked.size.is_none()
+        && volume.magic == MagicKind::Plain
+}
+
+// Refuses a volume where ids of it have two header pages or more, and nothing says how many bytes it has.
+fn check_one(
+    rt: &HostRuntime,
+    image: &str,
+    asked: &Asked,
+    held: Option<&HeldFile>,
+    volume: &Volume,
+) -> Result<(), Stop> {
+    let Some(held) = held else {
+        return Ok(());
+    };
+    if !may_mean_two(asked, volume) {
+        return Ok(());
+    }
+    let found = look_for(rt, image, held)?;
+    for one in found.iter() {
+        if one.doubled >= 2 && has_numbers(one, volume) {
+            let why = Unsettled::Doubled(one.doubled);
+            return Err(refuse_volume(rt, image, asked, &found, why));
+        }
+    }
+    Ok(())
 }
 
 /// The volume that a line means, by its numbers, a preset, or what is found in its image.
@@ -207,12 +356,14 @@ pub fn find_meant<'w>(
     asked: Asked,
 ) -> Result<Meant<'w>, Stop> {
     let image = text_of(image_word(words, &asked));
-    let length = length_of(rt, image, asked.word)?;
-    let found = find_candidates(rt, image, &asked, length)?;
-    let volume = match settle(&asked, length, &found) {
-        Ok(volume) => volume,
-        Err(why) => return Err(refuse_volume(rt, image, why)),
+    let held = hold_image(rt, image, &asked)?;
+    let length = match &held {
+        Some(held) => held.length(),
+        None => 0,
     };
+    let found = find_candidates(rt, image, &asked, held.as_ref())?;
+    let (volume, is_harmed) = choose_volume(rt, image, &asked, length, &found)?;
+    check_one(rt, image, &asked, held.as_ref(), &volume)?;
     let top = top_words(rt.alloc(), asked.word, &volume, image)?;
     let size = chip_size_of(&top, 1);
     let unit = unit_of(&top);
@@ -220,9 +371,11 @@ pub fn find_meant<'w>(
         words,
         asked,
         image,
+        held,
         volume,
         top,
         size,
         unit,
+        is_harmed,
     })
 }

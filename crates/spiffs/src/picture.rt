@@ -3,7 +3,7 @@ use crate::give::{chip_file, end_by, explain_image, print_bytes, row_of, trouble
 use crate::meant::Meant;
 use crate::stop::Stop;
 use crate::{BOARD_FAULT, USAGE, tell};
-use host_edge::{Access, StdBoard};
+use host_edge::StdBoard;
 use image_picture::{Style, draw};
 use nor_core::{Failed, Nor};
 use tool_parts::{Ending, read_geometry, read_numbers};
@@ -22,7 +22,7 @@ pub fn picture(rt: &HostRuntime, meant: &Meant<'_>) -> Result<u8, Stop> {
     let Some(numbers) = read_numbers(&meant.top) else {
         return Ok(tell(rt, "! usage\n", USAGE));
     };
-    let row = row_of(rt, meant, chip_file(rt, meant, Access::Read))?;
+    let row = row_of(rt, meant, chip_file(meant)?)?;
     let mut board = StdBoard::new(row, Vec::new(rt.alloc()));
     let g = match read_geometry(numbers, board.unit(), board.size()) {
         Ok(g) => g,

@@ -147,7 +147,7 @@ fn tell_need<'r>(
         }
         Err(Failed) => {
             let status = end_by(rt, Ending::FolderFault);
-            explain_tree(rt, tree, folder.trouble());
+            explain_tree(rt, tree, folder);
             Ok(status)
         }
     }

@@ -1,8 +1,9 @@
-//! The words `put`, `rm` and `mv`, which change files of an image. Their whole script runs on a copy in memory first, and on the file only
-//! if no line of it is refused there.
+//! The words `put`, `rm` and `mv`, which change files of an image. Their whole script runs on a copy in memory first, and only if no line of it
+//! is refused there the image is changed.
 use crate::give::{Guard, Told, chip_copy, chip_file, explain_told, give_on, print_bytes, row_of};
 use crate::look::Seen;
 use crate::meant::{Meant, fail, text_of};
+use crate::save::{is_replaced, save_copy, sync_image};
 use crate::script::{FileName, May, Script, count_lines, first_refused, reason_of};
 use crate::stop::Stop;
 use crate::{
@@ -11,7 +12,7 @@ use crate::{
 use chip_row::ChipRow;
 use front_edge::HostChip;
 use front_words::{SCRATCH, can_be_put, make_working, place};
-use host_edge::{Access, StdFolder, Trouble};
+use host_edge::{Shown, StdFolder, Trouble};
 use std::alloc::{AllocError, Global};
 use std::io::Read;
 use std::{fs, io, str};
@@ -28,6 +29,7 @@ fn refuse(rt: &HostRuntime, what: &str, why: FsErr) -> Stop {
         Ok(line) => tell(rt, line.as_str(), REFUSED),
         Err(_) => REFUSED,
     };
+    let what = Shown(what);
     // (if standard error fails too there is nobody to tell)
     let _said = eprintln!(rt; "spiffs: {what}: {why}");
     Stop::Status(status)
@@ -71,8 +73,8 @@ fn judge<C: HostChip>(
             return Err(refuse(rt, call, why));
         }
         if told.status == 0 {
-            let reply = str::from_utf8(refused.reply).unwrap_or("");
-            let call = str::from_utf8(refused.call).unwrap_or("");
+            let reply = Shown(str::from_utf8(refused.reply).unwrap_or(""));
+            let call = Shown(str::from_utf8(refused.call).unwrap_or(""));
             let _said = eprintln!(rt; "spiffs: {call}: {reply}");
             return Err(Stop::Status(BOARD_FAULT));
         }
@@ -83,7 +85,7 @@ fn judge<C: HostChip>(
     Err(refuse_told(rt, meant, told))
 }
 
-// Runs all scripts on a chip, and answers what the volume held before. Each reply has to be one that its line may have.
+// Runs all scripts on a chip, and answers what the volume held before, and the chip. Each reply has to be one that its line may have.
 fn run_all<C: HostChip>(
     rt: &HostRuntime,
     meant: &Meant<'_>,
@@ -91,7 +93,7 @@ fn run_all<C: HostChip>(
     script: &Script,
     memory: &mut Memory,
     guard: Guard,
-) -> Result<Option<Seen>, Stop> {
+) -> Result<(Option<Seen>, ChipRow<C>), Stop> {
     let mut folder = StdFolder::unlisted(rt, rt.alloc());
     let mut row = row;
     let mut first = None;
@@ -112,20 +114,49 @@ fn run_all<C: HostChip>(
         first = first.or(seen);
         row = after;
     }
-    Ok(first)
+    Ok((first, row))
 }
 
-// Runs the scripts on a copy in memory, and then on the file, unless that is only to be read.
+// Runs the scripts on the image's file itself.
+fn change_file(
+    rt: &HostRuntime,
+    meant: &Meant<'_>,
+    script: &Script,
+    memory: &mut Memory,
+) -> Result<(), Stop> {
+    let file = row_of(rt, meant, chip_file(meant)?)?;
+    let (_, file) = run_all(rt, meant, file, script, memory, Guard::Open)?;
+    drop(file);
+    sync_image(rt, meant)
+}
+
+// Runs the scripts on a copy in memory, and answers what the volume held before. Unless the file is only to be read the copy then comes into
+// its place, where the volume is all that it holds.
+fn change_copy(
+    rt: &HostRuntime,
+    meant: &Meant<'_>,
+    script: &Script,
+    memory: &mut Memory,
+) -> Result<Option<Seen>, Stop> {
+    let copy = row_of(rt, meant, chip_copy(rt, meant)?)?;
+    let (seen, copy) = run_all(rt, meant, copy, script, memory, Guard::Rehearses)?;
+    if !meant.asked.is_dry && is_replaced(meant) {
+        save_copy(rt, meant, &copy)?;
+    }
+    Ok(seen)
+}
+
+// Runs the scripts on a copy in memory, and changes the image.
 fn change(rt: &HostRuntime, meant: &Meant<'_>, script: &Script) -> Result<u8, Stop> {
     let mut memory = take_memory(rt, &meant.top)?;
-    let copy = row_of(rt, meant, chip_copy(rt, meant)?)?;
-    let seen = run_all(rt, meant, copy, script, &mut memory, Guard::Rehearses)?;
+    let seen = change_copy(rt, meant, script, &mut memory)?;
     if meant.asked.is_dry {
         explain_damaged(rt, seen);
         return Ok(0);
     }
-    let file = row_of(rt, meant, chip_file(rt, meant, Access::Write))?;
-    run_all(rt, meant, file, script, &mut memory, Guard::Open)?;
+    if !is_replaced(meant) {
+        change_file(rt, meant, script, &mut memory)?;
+    }
     explain_removed(rt, seen, 0);
     Ok(0)
 }

@@ -1,20 +1,18 @@
 //! Folders in folders: `pack` makes an image of a tree, and `unpack` puts the files of an image into one.
 use crate::give::{Guard, Told, chip_copy, chip_file, end_told, give_on, row_of};
-use crate::meant::{Meant, fail, text_of};
+use crate::meant::{Meant, text_of};
 use crate::room::explain_need;
+use crate::save::save_copy;
 use crate::stop::Stop;
-use crate::{BAD_NAME, BOARD_FAULT, FOLDER_FAULT, FULL, Memory, explain, take_memory};
+use crate::{BAD_NAME, FOLDER_FAULT, FULL, Memory, explain, take_memory};
 use chip_row::ChipRow;
 use folder_core::{Folder, MemFolder};
 use front_edge::{HostChip, blank_chip};
 use front_words::{folder_word, push_word};
-use host_edge::{Access, BadName, StdFolder, Trouble};
+use host_edge::{BadName, Bounds, FileId, Shown, SizeLimit, StdFolder};
 use host_tree::TreeFiles;
-use nor_core::{Failed, Nor};
 use std::alloc::{AllocError, Global};
-use std::fs::OpenOptions;
 use std::io;
-use std::io::Write;
 
 // The name of a file in the folder of a tree's files, as it stands in the tree.
 fn bad_name_in<'f>(bad: BadName<'f>, path: &'f str, by: &'f str) -> BadName<'f> {
@@ -55,41 +53,63 @@ pub fn explain_passed(rt: &HostRuntime, tree: &TreeFiles<&HostRuntime>) -> io::R
         let Some(path) = tree.passed_over(number)? else {
             return Ok(());
         };
+        let path = Shown(path.as_str());
         eprintln!(rt; "spiffs: {path}: a link or special file, passed over")?;
     }
     Ok(())
 }
 
+// The path on which a tree failed: that of a file that is there, or the one of which the host was asked last.
+fn failed_path(
+    tree: &TreeFiles<&HostRuntime>,
+    folder: &StdFolder<&TreeFiles<&HostRuntime>>,
+) -> io::Result<String> {
+    match tree.host_path(folder.failed_path()) {
+        Ok(path) => Ok(path),
+        Err(_) => tree.asked_path(),
+    }
+}
+
 /// Says what failed of a tree, and on which path.
-pub fn explain_tree(rt: &HostRuntime, tree: &TreeFiles<&HostRuntime>, trouble: Option<&Trouble>) {
-    if let Some(trouble) = trouble {
-        if let Ok(path) = tree.asked_path() {
-            // (if standard error fails too there is nobody to tell)
-            let _said = eprintln!(rt; "spiffs: {path}: {trouble}");
-            return;
+pub fn explain_tree<'r>(
+    rt: &'r HostRuntime,
+    tree: &TreeFiles<&'r HostRuntime>,
+    folder: &StdFolder<&TreeFiles<&'r HostRuntime>>,
+) {
+    let Some(trouble) = folder.trouble() else {
+        return;
+    };
+    if let Ok(path) = failed_path(tree, folder) {
+        let path = Shown(path.as_str());
+        // (if standard error fails too there is nobody to tell)
+        let _said = eprintln!(rt; "spiffs: {path}: {trouble}");
+        return;
+    }
+    explain(rt, Some(trouble));
+}
+
+// What no file of the tree may be: the image, where it is there; and how large it may become.
+fn bounds_of(rt: &HostRuntime, meant: &Meant<'_>) -> Result<Bounds, AllocError> {
+    let mut chips = Vec::new(rt.alloc());
+    if let Some(held) = &meant.held {
+        if let Ok(told) = held.metadata() {
+            chips.push(FileId::of(&told))?;
         }
     }
-    explain(rt, trouble);
+    let limit = SizeLimit::of(rt);
+    Ok(Bounds { chips, limit })
 }
 
-// The bytes of a row of chips in memory.
-fn bytes_of<C: HostChip>(alloc: Global, row: &mut ChipRow<C>) -> Result<Vec<u8>, Stop> {
-    let mut bytes = vec![in alloc; 0u8; row.size() as usize]?;
-    if bytes.is_empty() {
-        return Ok(bytes);
-    }
-    match row.read(0, &mut bytes) {
-        Ok(()) => Ok(bytes),
-        Err(Failed) => Err(Stop::Status(BOARD_FAULT)),
-    }
-}
-
-// Writes the image's file, which is made if it isn't there. What it has behind the volume is cut off.
-fn write_file(rt: &HostRuntime, path: &str, bytes: &[u8]) -> io::Result<()> {
-    let mut file = OpenOptions::new().write(true).create(true).open(rt, path)?;
-    file.write_all(bytes)?;
-    if file.metadata()?.len() > bytes.len() as u64 {
-        file.set_len(bytes.len() as u64)?;
+// Says which files were put aside for the sake of their names alone.
+fn explain_aside(rt: &HostRuntime, tree: &TreeFiles<&HostRuntime>) -> io::Result<()> {
+    for number in 0..usize::MAX {
+        let Some(path) = tree.unwanted(number)? else {
+            return Ok(());
+        };
+        let path = Shown(path.as_str());
+        eprintln!(rt;
+            "spiffs: {path}: put aside, since its name holds control characters; --raw-names takes it as it is"
+        )?;
     }
     Ok(())
 }
@@ -106,7 +126,7 @@ fn end_pack<'r, C: HostChip>(
     // (if standard error fails too there is nobody to tell)
     let _said = explain_passed(rt, tree);
     match status {
-        FOLDER_FAULT => explain_tree(rt, tree, folder.trouble()),
+        FOLDER_FAULT => explain_tree(rt, tree, folder),
         FULL => explain_need(rt, meant, folder),
         BAD_NAME => {
             if let Some(bad) = folder.bad_name() {
@@ -125,21 +145,20 @@ fn with_folder(alloc: Global, meant: &mut Meant<'_>) -> Result<(), AllocError> {
 }
 
 /// Makes an image of the tree below a folder. It is made in memory, and the file is written once it is whole; what the file has behind the
-/// volume is cut off.
+/// volume is cut off. An image that stands in the tree already is refused, since it would be a file of itself.
 pub fn pack(rt: &HostRuntime, meant: &mut Meant<'_>) -> Result<u8, Stop> {
     with_folder(rt.alloc(), meant)?;
     let top = text_of(folder_word(meant.words, &meant.asked));
     let mut memory = take_memory(rt, &meant.top)?;
     let tree = TreeFiles::new(rt, rt.alloc(), top, false)?;
-    let mut folder = StdFolder::new(&tree, rt.alloc(), top)?;
+    let bounds = bounds_of(rt, meant)?;
+    let mut folder = StdFolder::within(&tree, rt.alloc(), top, bounds)?;
+    folder.refuse_chips();
     let chip = blank_chip(rt.alloc(), meant.size, meant.unit)?;
     let row = row_of(rt, meant, chip)?;
-    let mut told = give_on(rt, meant, row, b"", &mut folder, &mut memory, Guard::Open)?;
+    let told = give_on(rt, meant, row, b"", &mut folder, &mut memory, Guard::Open)?;
     if told.status == 0 && !meant.asked.is_dry {
-        let bytes = bytes_of(rt.alloc(), &mut told.row)?;
-        if let Err(why) = write_file(rt, meant.image, &bytes) {
-            return Err(fail(rt, meant.image, &Trouble::Write(why), BOARD_FAULT));
-        }
+        save_copy(rt, meant, &told.row)?;
     }
     Ok(end_pack(rt, meant, &tree, &mut folder, &told))
 }
@@ -147,13 +166,12 @@ pub fn pack(rt: &HostRuntime, meant: &mut Meant<'_>) -> Result<u8, Stop> {
 // Tells what would be put into the tree.
 fn unpack_dry(rt: &HostRuntime, meant: &Meant<'_>, memory: &mut Memory) -> Result<u8, Stop> {
     let mut folder = MemFolder::new(rt.alloc());
-    let row = row_of(rt, meant, chip_file(rt, meant, Access::Read))?;
+    let row = row_of(rt, meant, chip_file(meant)?)?;
     let told = give_on(rt, meant, row, b"", &mut folder, memory, Guard::Open)?;
     Ok(end_told(rt, meant, &told))
 }
 
-/// Puts the files of the volume into the tree below a folder, which is made if it isn't there. They are read from a copy in memory, so an
-/// image below that folder may be written over.
+/// Puts the files of the volume into the tree below a folder, which is made if it isn't there. The image itself is never written over.
 pub fn unpack(rt: &HostRuntime, meant: &mut Meant<'_>) -> Result<u8, Stop> {
     with_folder(rt.alloc(), meant)?;
     let top = text_of(folder_word(meant.words, &meant.asked));
@@ -161,14 +179,20 @@ pub fn unpack(rt: &HostRuntime, meant: &mut Meant<'_>) -> Result<u8, Stop> {
     if meant.asked.is_dry {
         return unpack_dry(rt, meant, &mut memory);
     }
-    let tree = TreeFiles::new(rt, rt.alloc(), top, true)?;
-    let mut folder = StdFolder::new(&tree, rt.alloc(), top)?;
+    let mut tree = TreeFiles::new(rt, rt.alloc(), top, true)?;
+    if meant.asked.raw_names {
+        tree.take_raw_names();
+    }
+    let bounds = bounds_of(rt, meant)?;
+    let mut folder = StdFolder::within(&tree, rt.alloc(), top, bounds)?;
     let chip = chip_copy(rt, meant)?;
     let row = row_of(rt, meant, chip)?;
     let told = give_on(rt, meant, row, b"", &mut folder, &mut memory, Guard::Open)?;
     let status = end_told(rt, meant, &told);
+    // (if standard error fails too there is nobody to tell)
+    let _said = explain_aside(rt, &tree);
     if status == FOLDER_FAULT {
-        explain_tree(rt, &tree, folder.trouble());
+        explain_tree(rt, &tree, &folder);
     }
     Ok(status)
 }

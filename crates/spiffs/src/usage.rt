@@ -1,6 +1,7 @@
 //! Which word of a faulty command line is wrong.
 use crate::words::{CHIP_WORD, FOLDER_WORD, TABLES_WORD, chip_word, detects, target_words, word};
 use call_script::parse_number;
+use host_edge::Shown;
 use std::fmt;
 
 /// What is wrong with the words of a command.
@@ -41,7 +42,7 @@ impl fmt::Display for Wrong<'_> {
                 f,
                 "--force is for run, check, scrub, map, copy, trace and rehearse alone"
             ),
-            Wrong::Verb(verb) => write!(f, "there is no command {verb}"),
+            Wrong::Verb(verb) => write!(f, "there is no command {}", Shown(verb)),
             Wrong::Count { verb, form, given } => {
                 write!(f, "{verb} takes {form}, and {given} words are given")
             }
@@ -51,16 +52,18 @@ impl fmt::Display for Wrong<'_> {
                 least,
                 most,
             } => {
+                let given = Shown(given);
                 write!(
                     f,
                     "{name} is a number from {least} to {most} in decimal digits, and not {given}"
                 )
             }
-            Wrong::Magic(given) => write!(f, "MAGIC is len or plain, and not {given}"),
+            Wrong::Magic(given) => { write!(f, "MAGIC is len or plain, and not {}", Shown(given)) }
             Wrong::Empty(name) => write!(f, "{name} is empty"),
             Wrong::Last(given) => write!(
                 f,
-                "behind CHIP stands tables or nothing, and not {given}"
+                "behind CHIP stands tables or nothing, and not {}",
+                Shown(given)
             ),
         }
     }

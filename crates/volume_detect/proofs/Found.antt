@@ -11,7 +11,7 @@ use Rattle.volume_detect.specs.Marks.{HasNoWideGap, widest_gap, IsMarkedRow}
 use Rattle.volume_detect.specs.Places.{unit_of, block_power, page_power, kind_of, byte_of, block_bytes, page_bytes, IsFoundAt, FoundAt, place_count}
 use Rattle.volume_detect.specs.Rows.{is_marked}
 use Rattle.volume_detect.specs.Spots.{IsSpot, word_class}
-use Rattle.volume_detect.specs.Tails.{IsRestBy, IsNearRest}
+use Rattle.volume_detect.specs.Rests.{IsRestBy, IsNearRest}
 use Rattle.volume_detect.specs.Told.{IsIn, IsRowOf, IsToldBy, EndsMarked, Tells}
 use Rattle.volume_detect.specs.Words.{HasWords}
 use Rattle.volume_detect.specs.declared.spot.Spot.{Spot}

@@ -11,7 +11,7 @@ use Rattle.volume_detect.specs.Candidates.{SameBlocks}
 use Rattle.geometry.proofs.Geometries.{same_numbers}
 use Rattle.volume_detect.specs.Marks.{HasNoWideGap, widest_gap}
 use Rattle.volume_detect.specs.Rows.{is_marked, word_of}
-use Rattle.volume_detect.specs.Tails.{IsRestBy, IsNearRest}
+use Rattle.volume_detect.specs.Rests.{IsRestBy, IsNearRest}
 use Rattle.volume_detect.proofs.Refused.{with_blocks}
 
 -- a block is as far from the end in both

@@ -4,6 +4,6 @@ pub mod Rows
 pub mod Places
 pub mod Words
 pub mod Volumes
-pub mod Tails
+pub mod Rests
 pub mod Told
 pub mod Spots

@@ -6,8 +6,8 @@ ghost use Rattle.volume_detect.specs.Places.{FoundAt, NextFound, HasPlace, IsFou
 ghost use Rattle.volume_detect.specs.Told.{Tells};
 ghost use Rattle.volume_detect.specs.Words.{HasWords};
 
+use crate::rests::is_rest;
 use crate::spot::{Spot, spot_of};
-use crate::tails::is_rest;
 use crate::told::{length_volume, plain_volume};
 use geometry::{Geometry, MagicKind};
 

@@ -3,9 +3,9 @@
 
 mod finding;
 mod powers;
+mod rests;
 mod rows;
 mod spot;
-mod tails;
 mod told;
 mod volumes;
 mod words;

@@ -1,52 +1,94 @@
 -- The first of a list that comes behind one.
-use Rattle.std.proofs.Common.{◌≡◌, ◌==◌, ℕ, ◌+◌, ◌<◌, ◌≤◌, ◌⊎◌, ◌&&◌, ◌||◌, true, false, nat_lt, List, length, slice_index_or, Option, Some, None, inl, inr, sym, ap, ◌∙◌, subst, arith, ⊎_elim}
+use Rattle.std.proofs.Common.{◌≡◌, ◌==◌, ℕ, ◌+◌, ◌<◌, ◌≤◌, ◌⊎◌, ◌&&◌, ◌||◌, Bool, true, false, nat_lt, List, length, slice_index_or, Option, Some, None, inl, inr, sym, ap, ◌∙◌, subst, arith, ⊎_elim}
 use Rattle.std.proofs.lemmas.Bool.{cases_lt, or_cases, or_left, or_right, and_parts, and_from, ltb-true, lt-ltb, eqb-true, eq-eqb, both_ways}
 use Rattle.volume_rank.specs.declared.found.Found.{Found}
-use Rattle.volume_rank.specs.Order.{IsBefore, is_before, is_behind, FirstBehind, Better}
+use Rattle.volume_rank.specs.Order.{lost_blocks, IsSounder, IsFirmer, IsBefore, is_sounder, is_firmer, is_before, is_behind, FirstBehind, Better}
 
--- the test tells it
-pub before_is : (f g : Found) → is_before f g ≡ true → IsBefore f g
-before_is f g is = ⊎_elim
-    (λ (more : nat_lt g.counts.whole f.counts.whole ≡ true). inl (ltb-true _ _ more))
-    (λ (rest : ((f.counts.whole == g.counts.whole) && (nat_lt f.counts.damaged g.counts.damaged || ((f.counts.damaged == g.counts.damaged) && nat_lt f.place g.place))) ≡ true).
-    let w = and_parts _ _ rest in
-    inr (
-      eqb-true _ _ w.0,
-      ⊎_elim
-          (λ (less : nat_lt f.counts.damaged g.counts.damaged ≡ true). inl (ltb-true _ _ less))
-          (λ (last : ((f.counts.damaged == g.counts.damaged) && nat_lt f.place g.place) ≡ true). let v = and_parts _ _ last in inr (eqb-true _ _ v.0, ltb-true _ _ v.1))
-          (or_cases _ _ w.1),
-    ))
+-- a number is less, or equal and what follows decides
+abbrev Lex : (a b : ℕ) → Type 0 → Type 0
+Lex a b then = (a < b) ⊎ ((a ≡ b) × then)
+
+lex_is : (a b : ℕ) (rest : Bool) (then : Type 0) → (nat_lt a b || ((a == b) && rest)) ≡ true → (rest ≡ true → then) → Lex a b then
+lex_is a b rest then is next = ⊎_elim
+    (λ (less : nat_lt a b ≡ true). inl (ltb-true _ _ less))
+    (λ (equal : ((a == b) && rest) ≡ true). let w = and_parts _ _ equal in inr (eqb-true _ _ w.0, next w.1))
     (or_cases _ _ is)
 
-pub is_tested : (f g : Found) → IsBefore f g → is_before f g ≡ true
-is_tested f g is = ⊎_elim
-    (λ (more : g.counts.whole < f.counts.whole). or_left _ _ (lt-ltb _ _ more))
-    (λ (rest : (f.counts.whole ≡ g.counts.whole) × ((f.counts.damaged < g.counts.damaged) ⊎ ((f.counts.damaged ≡ g.counts.damaged) × (f.place < g.place)))).
-    or_right _ _ (and_from _ _ (eq-eqb _ _ rest.0) (⊎_elim
-    (λ (less : f.counts.damaged < g.counts.damaged). or_left _ _ (lt-ltb _ _ less))
-    (λ (last : (f.counts.damaged ≡ g.counts.damaged) × (f.place < g.place)). or_right _ _ (and_from _ _ (eq-eqb _ _ last.0) (lt-ltb _ _ last.1)))
-    rest.1)))
+lex_tested : (a b : ℕ) (rest : Bool) (then : Type 0) → Lex a b then → (then → rest ≡ true) → (nat_lt a b || ((a == b) && rest)) ≡ true
+lex_tested a b rest then is next = ⊎_elim
+    (λ (less : a < b). or_left _ _ (lt-ltb _ _ less))
+    (λ (equal : (a ≡ b) × then). or_right _ _ (and_from _ _ (eq-eqb _ _ equal.0) (next equal.1)))
     is
 
--- three numbers in this order
-abbrev Less : (a b c d e f : ℕ) → Type 0
-Less a b c d e f = (d < a) ⊎ ((a ≡ d) × ((b < e) ⊎ ((b ≡ e) × (c < f))))
+lex_then : (a b c : ℕ) (one two all : Type 0) → Lex a b one → Lex b c two → (one → two → all) → Lex a c all
+lex_then a b c one two all first second next = ⊎_elim
+    (λ (less : a < b). ⊎_elim
+    (λ (less' : b < c). inl (omega (arith, less, less')))
+    (λ (equal' : (b ≡ c) × two). inl (omega (arith, less, equal'.0)))
+    second)
+    (λ (equal : (a ≡ b) × one). ⊎_elim
+    (λ (less' : b < c). inl (omega (arith, equal.0, less')))
+    (λ (equal' : (b ≡ c) × two). inr (equal.0 ∙ equal'.0, next equal.1 equal'.1))
+    second)
+    first
 
-less_then : (a b c d e f x y z : ℕ) → Less a b c d e f → Less d e f x y z → Less a b c x y z
-less_then a b c d e f x y z one two = grind arith
+lex_not : (a : ℕ) (then : Type 0) → Lex a a then → (then → ⊥) → ⊥
+lex_not a then is none = ⊎_elim (λ (less : a < a). omega (arith, less)) (λ (equal : (a ≡ a) × then). none equal.1) is
+
+-- one of two is less, or what follows tells which
+pub lex_or : (a b : ℕ) (one other : Type 0) → one ⊎ other → ((a < b) ⊎ ((a ≡ b) × one)) ⊎ ((b < a) ⊎ ((b ≡ a) × other))
+lex_or a b one other rest = ⊎_elim
+    (λ (less : a < b). inl (inl less))
+    (λ (ge : b ≤ a). ⊎_elim
+    (λ (more : b < a). inr (inl more))
+    (λ (le : a ≤ b).
+    let e : a ≡ b = omega (arith, le, ge) in
+    ⊎_elim (λ (x : one). inl (inr (e, x))) (λ (y : other). inr (inr (sym e, y))) rest)
+    (cases_lt b a))
+    (cases_lt a b)
+
+-- the test tells it
+sounder_is : (f g : Found) → is_sounder f g ≡ true → IsSounder f g
+sounder_is f g is = lex_is f.counts.damaged g.counts.damaged (nat_lt f.place g.place) (f.place < g.place) is (λ less. ltb-true _ _ less)
+
+firmer_is : (f g : Found) → is_firmer f g ≡ true → IsFirmer f g
+firmer_is f g is = lex_is (lost_blocks f) (lost_blocks g) (is_sounder f g) (IsSounder f g) is (sounder_is f g)
+
+pub before_is : (f g : Found) → is_before f g ≡ true → IsBefore f g
+before_is f g is = lex_is g.counts.whole f.counts.whole (is_firmer f g) (IsFirmer f g) is (firmer_is f g)
+
+sounder_tested : (f g : Found) → IsSounder f g → is_sounder f g ≡ true
+sounder_tested f g is = lex_tested f.counts.damaged g.counts.damaged (nat_lt f.place g.place) (f.place < g.place) is (λ less. lt-ltb _ _ less)
+
+firmer_tested : (f g : Found) → IsFirmer f g → is_firmer f g ≡ true
+firmer_tested f g is = lex_tested (lost_blocks f) (lost_blocks g) (is_sounder f g) (IsSounder f g) is (sounder_tested f g)
+
+pub is_tested : (f g : Found) → IsBefore f g → is_before f g ≡ true
+is_tested f g is = lex_tested g.counts.whole f.counts.whole (is_firmer f g) (IsFirmer f g) is (firmer_tested f g)
 
 -- it goes on
+sounder_then : (f g h : Found) → IsSounder f g → IsSounder g h → IsSounder f h
+sounder_then f g h one two = lex_then f.counts.damaged g.counts.damaged h.counts.damaged (f.place < g.place) (g.place < h.place) (f.place < h.place) one two (λ less less'. omega (arith, less, less'))
+
+firmer_then : (f g h : Found) → IsFirmer f g → IsFirmer g h → IsFirmer f h
+firmer_then f g h one two = lex_then (lost_blocks f) (lost_blocks g) (lost_blocks h) (IsSounder f g) (IsSounder g h) (IsSounder f h) one two (sounder_then f g h)
+
 pub before_then : (f g h : Found) → is_before f g ≡ true → is_before g h ≡ true → is_before f h ≡ true
-before_then f g h one two = is_tested f h (less_then f.counts.whole f.counts.damaged f.place g.counts.whole g.counts.damaged g.place h.counts.whole h.counts.damaged h.place (before_is f g one) (before_is g h two))
+before_then f g h one two = is_tested f h (lex_then h.counts.whole g.counts.whole f.counts.whole (IsFirmer g h) (IsFirmer f g) (IsFirmer f h) (before_is g h two) (before_is f g one) (λ later first. firmer_then f g h first later))
 
 -- none is before itself
 pub not_itself : (f : Found) → is_before f f ≡ true → ⊥
-not_itself f is = ⊎_elim
-    (λ (more : f.counts.whole < f.counts.whole). absurd (omega (arith, more)))
-    (λ (rest : (f.counts.whole ≡ f.counts.whole) × ((f.counts.damaged < f.counts.damaged) ⊎ ((f.counts.damaged ≡ f.counts.damaged) × (f.place < f.place)))).
-    ⊎_elim (λ (less : f.counts.damaged < f.counts.damaged). absurd (omega (arith, less))) (λ (last : (f.counts.damaged ≡ f.counts.damaged) × (f.place < f.place)). absurd (omega (arith, last.1))) rest.1)
-    (before_is f f is)
+not_itself f is =
+    lex_not f.counts.whole (IsFirmer f f) (before_is f f is)
+    (λ firmer. lex_not (lost_blocks f) (IsSounder f f) firmer
+    (λ sounder. lex_not f.counts.damaged (f.place < f.place) sounder (λ less. omega (arith, less))))
+
+-- of two of other places one comes before the other
+pub before_or : (f g : Found) → f.place < g.place → IsBefore f g ⊎ IsBefore g f
+before_or f g less =
+    lex_or g.counts.whole f.counts.whole (IsFirmer f g) (IsFirmer g f)
+    (lex_or (lost_blocks f) (lost_blocks g) (IsSounder f g) (IsSounder g f)
+    (lex_or f.counts.damaged g.counts.damaged (f.place < g.place) (g.place < f.place) (inl less)))
 
 -- the first so far
 abbrev pub FirstTo : List Found → ℕ → Option Found → Option Found → Type 0

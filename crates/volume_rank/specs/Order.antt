@@ -1,17 +1,33 @@
 -- Which candidate reads better.
-use Rattle.std.specs.Prelude.{ℕ, ◌≡◌, ◌<◌, ◌⊎◌, Bool, ◌==◌, ◌&&◌, ◌||◌, nat_lt, true, false, List, length, slice_index_or, Option, Some, None}
+use Rattle.std.specs.Prelude.{ℕ, ◌≡◌, ◌-◌, ◌<◌, ◌⊎◌, Bool, ◌==◌, ◌&&◌, ◌||◌, nat_lt, true, false, List, length, slice_index_or, Option, Some, None}
 use Rattle.volume_rank.specs.declared.found.Found.{Found}
 
--- One comes before another: it has more whole files, or as many and fewer damaged ids, or as many of both and a lower place, which goes by the byte,
--- then the block, the page and what the magic tells.
-abbrev pub IsBefore : Found → Found → Type 0
-IsBefore f g = (g.counts.whole < f.counts.whole)
-    ⊎ ((f.counts.whole ≡ g.counts.whole) × ((f.counts.damaged < g.counts.damaged) ⊎ ((f.counts.damaged ≡ g.counts.damaged) × (f.place < g.place))))
+-- how many blocks lack their magic, but for one, which may also lack it in a volume that mounts
+abbrev pub lost_blocks : Found → ℕ
+lost_blocks f = f.spoiled - 1
 
--- the same as a test
+-- Of two that read as many files, and as many blocks of which are lost, one comes before the other: fewer ids are damaged, or as many and its
+-- place is lower, which goes by the byte, then the block, the page and what the magic tells.
+abbrev pub IsSounder : Found → Found → Type 0
+IsSounder f g = (f.counts.damaged < g.counts.damaged) ⊎ ((f.counts.damaged ≡ g.counts.damaged) × (f.place < g.place))
+
+-- Of two that read as many files: fewer blocks are lost, or as many.
+abbrev pub IsFirmer : Found → Found → Type 0
+IsFirmer f g = (lost_blocks f < lost_blocks g) ⊎ ((lost_blocks f ≡ lost_blocks g) × IsSounder f g)
+
+-- One comes before another: it has more whole files, or as many.
+abbrev pub IsBefore : Found → Found → Type 0
+IsBefore f g = (g.counts.whole < f.counts.whole) ⊎ ((g.counts.whole ≡ f.counts.whole) × IsFirmer f g)
+
+-- the same as tests
+abbrev pub is_sounder : Found → Found → Bool
+is_sounder f g = nat_lt f.counts.damaged g.counts.damaged || ((f.counts.damaged == g.counts.damaged) && nat_lt f.place g.place)
+
+abbrev pub is_firmer : Found → Found → Bool
+is_firmer f g = nat_lt (lost_blocks f) (lost_blocks g) || ((lost_blocks f == lost_blocks g) && is_sounder f g)
+
 abbrev pub is_before : Found → Found → Bool
-is_before f g = nat_lt g.counts.whole f.counts.whole
-    || ((f.counts.whole == g.counts.whole) && (nat_lt f.counts.damaged g.counts.damaged || ((f.counts.damaged == g.counts.damaged) && nat_lt f.place g.place)))
+is_before f g = nat_lt g.counts.whole f.counts.whole || ((g.counts.whole == f.counts.whole) && is_firmer f g)
 
 -- it comes behind that one, if there is one
 abbrev pub is_behind : Option Found → Found → Bool

@@ -30,6 +30,7 @@ const PLAIN: Asked = Asked {
     repairs: false,
     is_svg: false,
     is_forced: false,
+    raw_names: false,
 };
 
 #[test]
@@ -65,6 +66,13 @@ fn each_word_asks_for_itself() {
         let wanted = Asked { word, size: (word == Word::Gen).then_some(1_048_576), ..PLAIN };
         assert_eq!(asked(line), wanted, "{line}");
     }
+}
+
+#[test]
+fn raw_names_are_for_unpack() {
+    assert_eq!(asked("unpack i f --raw-names"), Asked { word: Word::Unpack, raw_names: true, ..PLAIN });
+    assert_eq!(refused("ls i --raw-names"), Refusal::NotFor(Slot::RawNames));
+    assert_eq!(refused("unpack i f --raw-names --raw-names"), Refusal::Twice(Slot::RawNames));
 }
 
 #[test]

@@ -3,7 +3,7 @@
 use crate::lines::asked;
 use liverymenhir::geometry::MagicKind;
 use rattle_host::alloc::Global;
-use spiffs::front_words::{Candidate, Unsettled, Volume, settle, top_words, wants_detect};
+use spiffs::front_words::{Candidate, Unsettled, Volume, choose_sure, settle, top_words, wants_detect};
 
 const FOUND: Candidate = Candidate {
     at: 0,
@@ -15,6 +15,8 @@ const FOUND: Candidate = Candidate {
     magic: MagicKind::Length,
     whole: 3,
     damaged: 0,
+    spoiled: 0,
+    doubled: 0,
 };
 
 const VOLUME: Volume = Volume { at: 0, page: 256, block: 4096, blocks: 16, meta: 4, magic: MagicKind::Length };
@@ -64,12 +66,70 @@ fn numbers_that_are_left_out_come_from_the_file() {
         ("ls i", [any_meta, Candidate { damaged: 1, ..any_meta }], Ok(Volume { meta: 0, ..VOLUME })),
         ("put i f", [any_meta, Candidate { damaged: 1, ..any_meta }], Err(Unsettled::AnyMeta)),
         ("put i f --meta 4", [any_meta, Candidate { damaged: 1, ..any_meta }], Ok(VOLUME)),
-        ("rm i f", [FOUND, second], Ok(VOLUME)),
     ] {
         assert!(wants_detect(&asked(line)));
         assert_eq!(settle(&asked(line), 1 << 20, &found), wanted, "{line}");
     }
     assert_eq!(settle(&asked("ls i"), 65_536, &[]), Err(Unsettled::NoneFound));
+}
+
+#[test]
+fn a_line_that_writes_goes_on_where_one_volume_is_meant() {
+    let second = Candidate { at: 65_536, whole: 1, ..FOUND };
+    let empty = Candidate { whole: 0, ..second };
+    let inner = Candidate { blocks: 8, whole: 2, ..FOUND };
+    let harmed = Candidate { damaged: 2, ..FOUND };
+    let torn = Candidate { spoiled: 2, ..FOUND };
+    let cut = Candidate { spoiled: 1, doubled: 1, ..FOUND };
+    let two = Candidate { doubled: 2, damaged: 2, ..FOUND };
+    for (line, found, wanted) in [
+        ("rm i f", vec![FOUND], Ok(VOLUME)),
+        ("rm i f", vec![FOUND, second], Err(Unsettled::Several)),
+        ("fsck i --repair", vec![FOUND, second], Err(Unsettled::Several)),
+        ("rm i f --force", vec![FOUND, second], Err(Unsettled::Several)),
+        ("fsck i", vec![FOUND, second], Ok(VOLUME)),
+        ("cat i f", vec![FOUND, second], Ok(VOLUME)),
+        ("rm i f --at 65536", vec![FOUND, second], Ok(Volume { at: 65_536, ..VOLUME })),
+        ("rm i f", vec![FOUND, empty], Ok(VOLUME)),
+        ("rm i f", vec![FOUND, inner], Ok(VOLUME)),
+        ("rm i f", vec![FOUND, Candidate { whole: 3, ..inner }], Ok(VOLUME)),
+        ("rm i f", vec![inner, FOUND], Ok(VOLUME)),
+        ("rm i f", vec![Candidate { whole: 4, ..inner }, FOUND], Err(Unsettled::Several)),
+        ("rm i f", vec![harmed], Err(Unsettled::Harmed(2))),
+        ("mv i f g", vec![harmed], Err(Unsettled::Harmed(2))),
+        ("put i f", vec![harmed], Err(Unsettled::Harmed(2))),
+        ("put i f --force", vec![harmed], Ok(VOLUME)),
+        ("fsck i --repair", vec![harmed], Ok(VOLUME)),
+        ("unpack i f", vec![harmed], Ok(VOLUME)),
+        ("put i f --force", vec![torn], Err(Unsettled::Spoiled(2))),
+        ("fsck i --repair", vec![torn], Err(Unsettled::Spoiled(2))),
+        ("ls i", vec![torn], Ok(VOLUME)),
+        ("put i f", vec![cut], Ok(VOLUME)),
+        ("put i f --force", vec![two], Err(Unsettled::Doubled(2))),
+        ("fsck i --repair", vec![two], Err(Unsettled::Doubled(2))),
+        ("put i f -s 64K", vec![two], Err(Unsettled::Harmed(2))),
+        ("put i f -s 64K --force", vec![two], Ok(VOLUME)),
+        ("df i", vec![two], Ok(VOLUME)),
+        ("rm i f -b 8K", vec![FOUND], Err(Unsettled::NoneFound)),
+    ] {
+        assert!(wants_detect(&asked(line)));
+        assert_eq!(settle(&asked(line), 1 << 20, &found), wanted, "{line} {found:?}");
+    }
+    assert_eq!(choose_sure(&asked("ls i"), &[FOUND, second]), Err(Unsettled::Several));
+    assert_eq!(choose_sure(&asked("ls i"), &[torn]), Err(Unsettled::Spoiled(2)));
+    assert_eq!(choose_sure(&asked("ls i"), &[harmed]), Ok(VOLUME));
+}
+
+#[test]
+fn a_volume_is_told_with_the_words_that_choose_it() {
+    let words = "--at 4096 --page 256 --block 4096 --size 65536 --meta 4 --magic len";
+    let found = Candidate { at: 4096, ..FOUND };
+    assert_eq!(format!("{found}"), format!("{words}: 3 files, 0 damaged"));
+    let mixed = Candidate { last_meta: 7, damaged: 1, spoiled: 3, doubled: 2, ..found };
+    assert_eq!(format!("{mixed}"), format!("{words}: 3 files, 1 damaged, by --meta up to 7 too, 3 blocks without magic, 2 ids twice"));
+    let line = format!("put i f {words}");
+    assert!(!wants_detect(&asked(&line)));
+    assert_eq!(settle(&asked(&line), 1 << 20, &[]), Ok(Volume { at: 4096, ..VOLUME }));
 }
 
 #[test]

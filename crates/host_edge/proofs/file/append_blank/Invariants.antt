@@ -1,4 +1,4 @@
-use Rattle.std.proofs.Common.{◌-◌, ◌≤◌, length}
+use Rattle.std.proofs.Common.{◌-◌}
 use Rattle.host_edge.proofs.file.append_blank.Given as goal
 
 abbrev pub decreases-loop-end : goal.decreases-loop-end

@@ -1,8 +1,5 @@
-use Rattle.std.proofs.Common.{◌-◌, ◌≤◌, length}
+use Rattle.std.proofs.Common.{◌≤◌, length}
 use Rattle.host_edge.proofs.put.write_some.Given as goal
 
-abbrev pub invariant-loop-count : goal.invariant-loop-count
-invariant-loop-count g l = l.count ≤ length l.piece
-
-abbrev pub decreases-loop-count : goal.decreases-loop-count
-decreases-loop-count g l = length l.piece - l.count
+abbrev pub invariant-loop : goal.invariant-loop
+invariant-loop g l = l.count ≤ length l.piece

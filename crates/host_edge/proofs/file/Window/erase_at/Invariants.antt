@@ -1,4 +1,4 @@
-use Rattle.std.proofs.Common.{◌-◌, ◌≤◌, length}
+use Rattle.std.proofs.Common.{◌-◌, ◌≤◌}
 use Rattle.host_edge.proofs.file.Window.erase_at.Given as goal
 
 abbrev pub invariant-loop-done : goal.invariant-loop-done

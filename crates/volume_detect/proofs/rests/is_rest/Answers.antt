@@ -1,7 +1,7 @@
 use Rattle.std.proofs.Common.{ℕ, ◌≡◌, ◌<◌, ◌≤◌, subst, arith, ⊎_elim}
 use Rattle.std.proofs.lemmas.Bool.{cases_lt}
-use Rattle.volume_detect.specs.Tails.{IsRestBy}
-use Rattle.volume_detect.proofs.tails.is_rest.Goals as goal
+use Rattle.volume_detect.specs.Rests.{IsRestBy}
+use Rattle.volume_detect.proofs.rests.is_rest.Goals as goal
 
 pub loop-more-preserved : goal.loop-more-preserved
 loop-more-preserved c =

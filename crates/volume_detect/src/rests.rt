@@ -1,6 +1,6 @@
 // Rests of longer volumes.
 ghost use Rattle.std.specs.Prelude.{◌≡◌, ℕ, ◌+◌, ◌-◌, ◌*◌, ◌<◌, ◌≤◌, ◌^◌, length, IsTrue, IsFalse};
-ghost use Rattle.volume_detect.specs.Tails.{IsRestBy, IsNearRest};
+ghost use Rattle.volume_detect.specs.Rests.{IsRestBy, IsNearRest};
 
 use crate::rows::{has_wide_gap, is_marked, widest_gap};
 use crate::volumes::volume_of;

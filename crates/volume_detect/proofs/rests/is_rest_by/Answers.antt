@@ -3,7 +3,7 @@ use Rattle.std.proofs.lemmas.Bool.{not-true, not-false}
 use Rattle.volume_detect.specs.Marks.{HasNoWideGap, widest_gap}
 use Rattle.volume_detect.specs.Rows.{is_marked}
 use Rattle.volume_detect.proofs.Longer.{last_inside, not_marked, not_narrow}
-use Rattle.volume_detect.proofs.tails.is_rest_by.Goals as goal
+use Rattle.volume_detect.proofs.rests.is_rest_by.Goals as goal
 
 pub has_wide_gap-requires-clause-inside : goal.has_wide_gap-requires-clause-inside
 has_wide_gap-requires-clause-inside c =

@@ -1,8 +1,8 @@
 -- It is the rest of none that is longer by fewer blocks.
 use Rattle.std.proofs.Common.{◌≡◌, ℕ, ◌+◌, ◌<◌}
 use Rattle.volume_detect.specs.Marks.{widest_gap}
-use Rattle.volume_detect.specs.Tails.{IsRestBy}
-use Rattle.volume_detect.proofs.tails.is_rest.Given as goal
+use Rattle.volume_detect.specs.Rests.{IsRestBy}
+use Rattle.volume_detect.proofs.rests.is_rest.Given as goal
 
 abbrev pub invariant-loop-more : goal.invariant-loop-more
 invariant-loop-more l = record {

@@ -1,8 +1,0 @@
-use Rattle.std.proofs.Common.{◌-◌, ◌≤◌, length}
-use Rattle.host_edge.proofs.file.read_whole.Given as goal
-
-abbrev pub invariant-loop-filled : goal.invariant-loop-filled
-invariant-loop-filled l = l.filled ≤ length l.into
-
-abbrev pub decreases-loop-filled : goal.decreases-loop-filled
-decreases-loop-filled l = length l.into - l.filled
