@@ -20,9 +20,14 @@ MACHINES = {
 # The targets of the libraries for C; the first is that of this machine.
 LIBRARIES = ("x86_64-unknown-linux-gnu", "aarch64-unknown-linux-gnu", "thumbv6m-none-eabi", "thumbv7m-none-eabi")
 
-IN_SHELL = '. "$1/common.sh"; '
-FOR_PROGRAM = IN_SHELL + 'set_program_target "$2" "$1/out" && cd "$1/out" && "${for_target[@]}" -p spiffs >&2 && echo "$made/spiffs"'
-FOR_LIBRARY = IN_SHELL + 'set_target "$2" core "$1/out" && cd "$1/out/spiffs_c" && "${for_target[@]}" >&2 && echo "$made/libspiffs.a"'
+# Builds a package for a target: prints the compiler and where the file is. Ends with 3 where the target, or a linker for it, isn't there.
+BUILD = """
+. "$1/common.sh"
+%s || exit 3
+cd "$1/out/%s" && "${for_target[@]}" %s >&2 && "$rustc" --version && echo "$made/%s"
+"""
+FOR_PROGRAM = BUILD % ('set_program_target "$2" "$1/out"', ".", "-p spiffs", "spiffs")
+FOR_LIBRARY = BUILD % ('set_target "$2" core "$1/out"', "spiffs_c", "", "libspiffs.a")
 
 
 def tell(text):
@@ -30,11 +35,14 @@ def tell(text):
 
 
 def by_shell(script, *words, **more):
-    """What a script prints last, as a path; None where it fails."""
+    """What a script built: the compiler, and the bytes; None where it ends with 3. If a target is there and the build fails, nothing is released."""
     done = subprocess.run(["bash", "-c", script, "release", PLAIN, *words], stdout=subprocess.PIPE, stderr=subprocess.PIPE, text=True, check=False, **more)
-    if done.returncode != 0:
+    if done.returncode == 3:
         return None
-    return pathlib.Path(done.stdout.strip().split("\n")[-1])
+    if done.returncode != 0:
+        sys.exit(f"release: for {words[0]} it can't be built:\n{done.stderr[-2000:]}")
+    compiler, path = done.stdout.strip().split("\n")[-2:]
+    return compiler, pathlib.Path(path).read_bytes()
 
 
 def prepare():
@@ -59,14 +67,14 @@ def linked(program, target):
 
 
 def programs(commit):
-    """The programs that can be built: machine, target, bytes."""
+    """The programs that can be built: machine, target, compiler, bytes."""
     built = []
     for machine, targets in MACHINES.items():
         for target in targets:
-            path = by_shell(FOR_PROGRAM, target, env=dict(os.environ, SPIFFS_COMMIT=commit))
-            if path:
-                built.append((machine, target, path.read_bytes()))
-                tell(f"the plain program for {machine}: {linked(built[-1][2], target)}")
+            made = by_shell(FOR_PROGRAM, target, env=dict(os.environ, SPIFFS_COMMIT=commit))
+            if made:
+                built.append((machine, target, *made))
+                tell(f"the plain program for {machine}: {linked(made[1], target)}")
                 break
         else:
             tell(f"the plain program for {machine} is left out: {' or '.join(targets)} can't be built here")
@@ -74,16 +82,16 @@ def programs(commit):
 
 
 def libraries():
-    """The libraries for C, as files of an archive, and their targets."""
-    files, targets = [], []
+    """The libraries for C, as files of an archive, and for each target its compiler."""
+    files, compilers = [], {}
     for target in LIBRARIES:
-        path = by_shell(FOR_LIBRARY, target)
-        if path is None:
+        made = by_shell(FOR_LIBRARY, target)
+        if made is None:
             tell(f"libspiffs.a for {target} is left out: neither rustup's target nor Debian's rust-web-src is there")
             continue
-        files.append((f"lib/{target}/libspiffs.a", path.read_bytes(), False))
-        targets.append(target)
-    return files, targets
+        files.append((f"lib/{target}/libspiffs.a", made[1], False))
+        compilers[target] = made[0]
+    return files, compilers
 
 
 def crate():
@@ -112,7 +120,3 @@ def page():
     if status != 0:
         sys.exit("release: the page for a browser can't be built")
     return [("spiffs.html", (OUT / "web" / "spiffs.html").read_bytes(), False)]
-
-
-def compiler():
-    return subprocess.run(["rustc", "--version"], check=True, capture_output=True, text=True).stdout.strip()
