@@ -94,13 +94,30 @@ as_good c d = (c.whole == d.whole) && (c.damaged == d.damaged)
 abbrev pub same_numbers : Candidate → Candidate → Bool
 same_numbers c d = (c.at == d.at) && (c.page == d.page) && (c.block == d.block) && (c.blocks == d.blocks) && fits_magic (Some c.magic) d.magic
 
--- one lies within the bytes of another, and reads no more whole files
+-- one lies within the bytes of another, lacks as many magics or more, and reads no more whole files
 abbrev pub lies_in : Candidate → Candidate → Bool
-lies_in d c = nat_le c.at d.at && nat_le (d.at + d.block * d.blocks) (c.at + c.block * c.blocks) && nat_le d.whole c.whole
+lies_in d c = nat_le c.at d.at && nat_le (d.at + d.block * d.blocks) (c.at + c.block * c.blocks) && nat_le c.spoiled d.spoiled && nat_le d.whole c.whole
 
--- Another one leaves no doubt of `c`: it reads no whole file, and `c` does; or it lies within `c`, and that not within it.
+-- two have no byte in common
+abbrev pub lies_apart : Candidate → Candidate → Bool
+lies_apart d c = nat_le (c.at + c.block * c.blocks) d.at || nat_le (d.at + d.block * d.blocks) c.at
+
+-- `c` reads whole files, and `d` none. (An empty volume that lies apart and has all its magics may be meant all the same.)
+abbrev pub reads_none : Candidate → Candidate → Bool
+reads_none d c = nat_lt 0 c.whole && (d.whole == 0) && not (lies_apart d c && (d.spoiled == 0))
+
+-- They share bytes, `c` reads more whole files and no damaged one, and `d` some.
+abbrev pub reads_worse : Candidate → Candidate → Bool
+reads_worse d c = (c.damaged == 0) && nat_lt 0 d.damaged && nat_lt d.whole c.whole && not (lies_apart d c)
+
+-- Both have the same bytes and read as much, and the blocks of `d` are longer: of a `plain` row every other magic is read then.
+abbrev pub is_coarser : Candidate → Candidate → Bool
+is_coarser d c = nat_lt c.block d.block && (c.page == d.page) && fits_magic (Some c.magic) d.magic && lies_in c d && lies_in d c
+
+-- Another one leaves no doubt of `c`: it reads no whole file, or fewer and damaged ones, where `c` reads more; it lies within `c`, and that not
+-- within it; or its blocks are longer.
 abbrev pub no_rival : (c d : Candidate) → Bool
-no_rival c d = same_numbers c d || (nat_lt 0 c.whole && (d.whole == 0)) || (lies_in d c && not (lies_in c d))
+no_rival c d = same_numbers c d || reads_none d c || reads_worse d c || (lies_in d c && not (lies_in c d)) || is_coarser d c
 
 -- a line writes to the image: a check only where it is to mend it
 abbrev pub writes : Word → (repairs : Bool) → Bool
@@ -117,19 +134,16 @@ edits Rm = true
 edits Mv = true
 edits _ = false
 
--- Two or more ids have two live header pages, and nothing says how many bytes the volume has: two may stand end to end.
-abbrev pub is_doubled : Asked → Candidate → Bool
-is_doubled asked c = is_none asked.size && nat_le 2 c.doubled
-
 -- ids are damaged, and nothing says that they may be removed
 abbrev pub is_harmed : Asked → Candidate → Bool
 is_harmed asked c = (edits asked.word && not asked.is_forced) && nat_lt 0 c.damaged
 
--- one that a line would change: not where two or more of its blocks lack their magic, nor where it may be two, nor while ids are damaged
+-- One that a line would change: not where an id has two live header pages, since two volumes may stand end to end, nor where two or more of its
+-- blocks lack their magic, nor while ids are damaged.
 abbrev pub unless_harmed : Asked → Candidate → Result Volume Unsettled
 unless_harmed asked c =
-    if nat_le 2 c.spoiled then Err (Spoiled c.spoiled)
-    else if is_doubled asked c then Err (Doubled c.doubled)
+    if nat_lt 0 c.doubled then Err (Doubled c.doubled)
+    else if nat_le 2 c.spoiled then Err (Spoiled c.spoiled)
     else if is_harmed asked c then Err (Harmed c.damaged)
     else with_meta asked c (known_meta asked)
 
@@ -211,12 +225,12 @@ pub record KeepsNumbers (asked : Asked) (v : Volume) : Type 0 where
   pub at : IsAsGiven asked.at v.at
   pub size : IsAsGiven asked.size (v.block * v.blocks)
 
--- Of all that were found and agree, no other leaves doubt of `c`; at most one of its blocks lacks its magic; fewer than two of its ids have two
--- live header pages, or the size is given; no id is damaged, or that is no matter for the line; and the volume has its numbers.
+-- Of all that were found and agree, no other leaves doubt of `c`; no id of it has two live header pages; at most one of its blocks lacks its
+-- magic; no id is damaged, or that is no matter for the line; and the volume has its numbers.
 pub record IsSafe (asked : Asked) (all : List Candidate) (c : Candidate) (v : Volume) : Type 0 where
   pub alone : list_all (no_rival c) all ≡ true
   pub marked : c.spoiled < 2
-  pub apart : is_none asked.size ≡ true → c.doubled < 2
+  pub apart : c.doubled ≡ 0
   pub whole : edits asked.word ≡ true → asked.is_forced ≡ false → c.damaged ≡ 0
   pub taken : v ≡ found_volume c v.meta
 

@@ -30,14 +30,15 @@ pub fn given_numbers_are_kept()
     ensures { (asked : Asked) (length : ℕ) (found : List Candidate) (v : Volume) → settled asked length found ≡ Ok v → KeepsNumbers asked v }
 {}
 
-/// Of two volumes that were found and differ, at most one leaves no doubt of the other. So a line that would change its volume means at most one.
+/// Of two volumes that were found and differ, at most one is such that the other leaves no doubt of it. So a line that would change its volume
+/// means at most one.
 pub fn a_changed_volume_is_one()
     ensures { (c d : Candidate) → no_rival c d ≡ true → no_rival d c ≡ true → same_numbers c d ≡ true }
 {}
 
-/// A line that writes and doesn't give all numbers takes a volume that was found only where no other one leaves doubt of it, at most one of its
-/// blocks lacks its magic, it can't be two that stand end to end, or its size is given, and no file is damaged, or `--force` says that
-/// damaged ones may go. A check with `--repair` is there for damaged ones.
+/// A line that writes and doesn't give all numbers takes a volume that was found only where no other one leaves doubt of it, no id of it has two
+/// header pages, at most one of its blocks lacks its magic, and no file is damaged, or `--force` says that damaged ones may go. A check
+/// with `--repair` is there for damaged ones.
 pub fn a_written_volume_is_safe()
     ensures { (asked : Asked) (length : ℕ) (found : List Candidate) (v : Volume) → writes asked.word asked.repairs ≡ true → needs_found asked ≡ true →
         settled asked length found ≡ Ok v → MayBeWritten asked (agreeing asked found) v }

@@ -4,8 +4,8 @@ ghost use Rattle.front_words.specs.Settling.{first_of as the_first, preset_of as
 ghost use Rattle.front_words.specs.Settling.{known_meta as the_meta, known_magic as the_magic, start_of, bytes_of, sized as the_sized, fits as the_fit};
 ghost use Rattle.front_words.specs.Settling.{fits_magic, same_magic, agrees as the_agreement, found_volume as the_volume, with_meta as the_meta_of, as_good};
 ghost use Rattle.front_words.specs.Settling.{chosen, agreeing, end_of, reached, settled, needs_found};
-ghost use Rattle.front_words.specs.Settling.{same_numbers, lies_in as the_lying, no_rival, writes as the_writing, edits as the_edit};
-ghost use Rattle.front_words.specs.Settling.{is_doubled as the_doubled, is_harmed as the_harmed, unless_harmed as the_unharmed, none_sure as the_none, alone_in, chosen_by as the_choice, sure, told_volume};
+ghost use Rattle.front_words.specs.Settling.{same_numbers, lies_in as the_lying, lies_apart as the_apart, reads_none as the_none_read, reads_worse as the_worse_read};
+ghost use Rattle.front_words.specs.Settling.{is_coarser as the_coarser, no_rival, writes as the_writing, edits as the_edit, is_harmed as the_harmed, unless_harmed as the_unharmed, none_sure as the_none, alone_in, chosen_by as the_choice, sure, told_volume};
 
 use crate::asked::{Asked, changes, makes};
 use crate::word::{Preset, Word};
@@ -328,11 +328,46 @@ fn behind(found: &Candidate) -> u64
     u64::from(found.at) + u64::from(found.block) * u64::from(found.blocks)
 }
 
-// Whether one that was found lies within another, and reads no more.
+// Whether one that was found lies within another, lacks as many magics or more, and reads no more.
 fn lies_in(one: &Candidate, other: &Candidate) -> bool
     ensures { result ≡ the_lying one.now other.now }
 {
-    other.at <= one.at && behind(one) <= behind(other) && one.whole <= other.whole
+    other.at <= one.at
+        && behind(one) <= behind(other)
+        && other.spoiled <= one.spoiled
+        && one.whole <= other.whole
+}
+
+// Whether two have no byte in common.
+fn lies_apart(one: &Candidate, other: &Candidate) -> bool
+    ensures { result ≡ the_apart one.now other.now }
+{
+    behind(other) <= u64::from(one.at) || behind(one) <= u64::from(other.at)
+}
+
+// Whether the first of two reads no whole file, and the second does.
+fn reads_none(one: &Candidate, best: &Candidate) -> bool
+    ensures { result ≡ the_none_read one.now best.now }
+{
+    best.whole > 0 && one.whole == 0 && !(lies_apart(one, best) && one.spoiled == 0)
+}
+
+// Whether the first of two that share bytes reads damaged files and fewer whole ones, and the second no damaged ones.
+fn reads_worse(one: &Candidate, best: &Candidate) -> bool
+    ensures { result ≡ the_worse_read one.now best.now }
+{
+    best.damaged == 0 && one.damaged > 0 && one.whole < best.whole && !lies_apart(one, best)
+}
+
+// Whether the first of two that have the same bytes has longer blocks.
+fn is_coarser(one: &Candidate, best: &Candidate) -> bool
+    ensures { result ≡ the_coarser one.now best.now }
+{
+    best.block < one.block
+        && best.page == one.page
+        && has_magic(Some(best.magic), one.magic)
+        && lies_in(best, one)
+        && lies_in(one, best)
 }
 
 // Whether another one leaves no doubt of one that was found.
@@ -340,8 +375,10 @@ fn is_no_rival(best: &Candidate, other: &Candidate) -> bool
     ensures { result ≡ no_rival best.now other.now }
 {
     is_same(best, other)
-        || (best.whole > 0 && other.whole == 0)
+        || reads_none(other, best)
+        || reads_worse(other, best)
         || (lies_in(other, best) && !lies_in(best, other))
+        || is_coarser(other, best)
 }
 
 // Whether none that agrees leaves doubt of one.
@@ -376,13 +413,6 @@ fn edits(word: Word) -> bool
     matches!(word, Word::Put | Word::Rm | Word::Mv)
 }
 
-// Whether one that was found may be two, and nothing says how many bytes are meant.
-fn is_doubled(asked: &Asked, found: &Candidate) -> bool
-    ensures { result ≡ the_doubled asked.now found.now }
-{
-    asked.size.is_none() && found.doubled >= 2
-}
-
 // Whether ids of one that was found are damaged, and nothing says that they may be removed.
 fn is_harmed(asked: &Asked, found: &Candidate) -> bool
     ensures { result ≡ the_harmed asked.now found.now }
@@ -394,11 +424,11 @@ fn is_harmed(asked: &Asked, found: &Candidate) -> bool
 fn unless_harmed(asked: &Asked, found: &Candidate) -> Result<Volume, Unsettled>
     ensures { result ≡ the_unharmed asked.now found.now }
 {
+    if found.doubled > 0 {
+        return Err(Unsettled::Doubled(found.doubled));
+    }
     if found.spoiled >= 2 {
         return Err(Unsettled::Spoiled(found.spoiled));
-    }
-    if is_doubled(asked, found) {
-        return Err(Unsettled::Doubled(found.doubled));
     }
     if is_harmed(asked, found) {
         return Err(Unsettled::Harmed(found.damaged));
@@ -430,8 +460,8 @@ fn find_alone(asked: &Asked, found: &[Candidate]) -> Option<Candidate>
     None
 }
 
-/// Of the volumes that were found the one of which no other leaves doubt, or why a line that writes takes none: it is told also to those that
-/// only read.
+/// Of the volumes that were found the one of which no other leaves doubt, or why a line that writes takes none. A line that only reads asks it
+/// too, to tell whether one that writes would go on; damaged files and METAs that read as much stop only the latter.
 pub fn choose_sure(asked: &Asked, found: &[Candidate]) -> Result<Volume, Unsettled>
     ensures { result ≡ sure asked.now (agreeing asked.now found.now) }
 {

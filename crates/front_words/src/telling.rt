@@ -139,6 +139,34 @@ impl fmt::Display for Volume {
     }
 }
 
+// The options that choose a volume that was found, but for its size where two may stand in it: whoever means both has to give that.
+struct Choice {
+    volume: Volume,
+    doubled: u32,
+}
+
+impl fmt::Display for Choice {
+    fn fmt<W: fmt::Write>(&self, f: &mut fmt::Formatter<W>) -> fmt::Result {
+        let volume = self.volume;
+        if self.doubled == 0 {
+            return write!(f, "{volume}");
+        }
+        let Volume {
+            at,
+            page,
+            block,
+            meta,
+            magic,
+            ..
+        } = volume;
+        let magic = magic_name(magic);
+        write!(
+            f,
+            "--at {at} --page {page} --block {block} --meta {meta} --magic {magic}"
+        )
+    }
+}
+
 /// The options that choose it, and what it reads.
 impl fmt::Display for Candidate {
     fn fmt<W: fmt::Write>(&self, f: &mut fmt::Formatter<W>) -> fmt::Result {
@@ -152,15 +180,16 @@ impl fmt::Display for Candidate {
             doubled,
             ..
         } = *self;
-        write!(f, "{volume}: {whole} files, {damaged} damaged")?;
+        let choice = Choice { volume, doubled };
+        write!(f, "{choice}: {whole} files, {damaged} damaged")?;
         if first_meta != last_meta {
             write!(f, ", by --meta up to {last_meta} too")?;
         }
         if spoiled >= 2 {
             write!(f, ", {spoiled} blocks without magic")?;
         }
-        if doubled >= 2 {
-            write!(f, ", {doubled} ids twice")?;
+        if doubled > 0 {
+            write!(f, ", header pages twice: {doubled}")?;
         }
         Ok(())
     }
@@ -197,7 +226,7 @@ impl fmt::Display for Unsettled {
             Unsettled::Doubled(ids) => {
                 write!(
                     f,
-                    "{ids} ids have two files: two volumes may stand end to end: give all numbers of one, --size too"
+                    "header pages twice: {ids}; two volumes may stand end to end, or a power cut was never checked: give all numbers of one, --size too"
                 )
             }
             Unsettled::Harmed(damaged) => {

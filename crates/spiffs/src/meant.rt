@@ -7,7 +7,6 @@ use front_words::{
     Asked, Candidate, Unsettled, Volume, Word, choose_sure, image_word, settle, top_words,
     wants_detect,
 };
-use geometry::MagicKind;
 use host_edge::{Access, HeldFile, Shown, Trouble};
 use std::alloc::{AllocError, Global};
 use std::{fs, str};
@@ -271,11 +270,11 @@ fn tell_doubt(rt: &HostRuntime, image: &str, asked: &Asked, found: &[Candidate],
         return;
     }
     if let Some(why) = doubt_of(asked, found, volume) {
-        let others = found.len().saturating_sub(1);
+        let count = found.len();
         let image = Shown(image);
         // (if standard error fails too there is nobody to tell)
         let _said = eprintln!(rt;
-            "spiffs: {image}: the volume {volume} is read, and {others} others were found; a word that writes is refused: {why}; see spiffs detect {image}"
+            "spiffs: {image}: {volume} is meant, one of {count} that were found; a word that writes is refused: {why}; see spiffs detect {image}"
         );
     }
 }
@@ -308,21 +307,18 @@ fn choose_volume(
     }
 }
 
-// Whether a volume that was found has these numbers.
-fn has_numbers(found: &Candidate, volume: &Volume) -> bool {
+// Whether a volume that was found begins as that one and ends within it.
+fn begins_as(found: &Candidate, volume: &Volume) -> bool {
     found.at == volume.at
         && found.page == volume.page
         && found.block == volume.block
-        && found.blocks == volume.blocks
+        && found.blocks <= volume.blocks
         && found.magic == volume.magic
 }
 
-// Whether a line writes to a volume of plain magics, gives all numbers but the size, and so may mean two that stand end to end.
-fn may_mean_two(asked: &Asked, volume: &Volume) -> bool {
-    writes(asked)
-        && !wants_detect(asked)
-        && asked.size.is_none()
-        && volume.magic == MagicKind::Plain
+// Whether a line writes to a volume of which it gives all numbers but the size: then two that stand end to end may be meant.
+fn may_mean_two(asked: &Asked) -> bool {
+    writes(asked) && !wants_detect(asked) && asked.size.is_none()
 }
 
 // Refuses a volume where ids of it have two header pages or more, and nothing says how many bytes it has.
@@ -336,12 +332,12 @@ fn check_one(
     let Some(held) = held else {
         return Ok(());
     };
-    if !may_mean_two(asked, volume) {
+    if !may_mean_two(asked) {
         return Ok(());
     }
     let found = look_for(rt, image, held)?;
     for one in found.iter() {
-        if one.doubled >= 2 && has_numbers(one, volume) {
+        if one.doubled > 0 && begins_as(one, volume) {
             let why = Unsettled::Doubled(one.doubled);
             return Err(refuse_volume(rt, image, asked, &found, why));
         }

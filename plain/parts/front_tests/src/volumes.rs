@@ -81,6 +81,11 @@ fn a_line_that_writes_goes_on_where_one_volume_is_meant() {
     let harmed = Candidate { damaged: 2, ..FOUND };
     let torn = Candidate { spoiled: 2, ..FOUND };
     let cut = Candidate { spoiled: 1, doubled: 1, ..FOUND };
+    // (a block in front of a volume is read as a first one without magic)
+    let behind = Candidate { at: 4096, ..FOUND };
+    let longer = Candidate { blocks: 17, spoiled: 1, ..FOUND };
+    let fresh = Candidate { whole: 0, magic: MagicKind::Plain, ..FOUND };
+    let coarse = Candidate { block: 8192, blocks: 8, ..fresh };
     let two = Candidate { doubled: 2, damaged: 2, ..FOUND };
     for (line, found, wanted) in [
         ("rm i f", vec![FOUND], Ok(VOLUME)),
@@ -90,7 +95,13 @@ fn a_line_that_writes_goes_on_where_one_volume_is_meant() {
         ("fsck i", vec![FOUND, second], Ok(VOLUME)),
         ("cat i f", vec![FOUND, second], Ok(VOLUME)),
         ("rm i f --at 65536", vec![FOUND, second], Ok(Volume { at: 65_536, ..VOLUME })),
-        ("rm i f", vec![FOUND, empty], Ok(VOLUME)),
+        ("rm i f", vec![FOUND, empty], Err(Unsettled::Several)),
+        ("rm i f", vec![FOUND, Candidate { spoiled: 1, ..empty }], Ok(VOLUME)),
+        ("rm i f", vec![FOUND, Candidate { whole: 0, ..inner }], Ok(VOLUME)),
+        ("rm i f", vec![longer, behind], Err(Unsettled::Several)),
+        ("rm i f", vec![behind, Candidate { whole: 1, damaged: 2, ..longer }], Ok(Volume { at: 4096, ..VOLUME })),
+        ("rm i f", vec![Candidate { whole: 0, ..longer }, Candidate { whole: 0, ..behind }], Err(Unsettled::Several)),
+        ("put i f", vec![coarse, fresh], Ok(Volume { magic: MagicKind::Plain, ..VOLUME })),
         ("rm i f", vec![FOUND, inner], Ok(VOLUME)),
         ("rm i f", vec![FOUND, Candidate { whole: 3, ..inner }], Ok(VOLUME)),
         ("rm i f", vec![inner, FOUND], Ok(VOLUME)),
@@ -104,11 +115,10 @@ fn a_line_that_writes_goes_on_where_one_volume_is_meant() {
         ("put i f --force", vec![torn], Err(Unsettled::Spoiled(2))),
         ("fsck i --repair", vec![torn], Err(Unsettled::Spoiled(2))),
         ("ls i", vec![torn], Ok(VOLUME)),
-        ("put i f", vec![cut], Ok(VOLUME)),
+        ("put i f", vec![cut], Err(Unsettled::Doubled(1))),
         ("put i f --force", vec![two], Err(Unsettled::Doubled(2))),
         ("fsck i --repair", vec![two], Err(Unsettled::Doubled(2))),
-        ("put i f -s 64K", vec![two], Err(Unsettled::Harmed(2))),
-        ("put i f -s 64K --force", vec![two], Ok(VOLUME)),
+        ("put i f -s 64K --force", vec![two], Err(Unsettled::Doubled(2))),
         ("df i", vec![two], Ok(VOLUME)),
         ("rm i f -b 8K", vec![FOUND], Err(Unsettled::NoneFound)),
     ] {
@@ -125,8 +135,12 @@ fn a_volume_is_told_with_the_words_that_choose_it() {
     let words = "--at 4096 --page 256 --block 4096 --size 65536 --meta 4 --magic len";
     let found = Candidate { at: 4096, ..FOUND };
     assert_eq!(format!("{found}"), format!("{words}: 3 files, 0 damaged"));
-    let mixed = Candidate { last_meta: 7, damaged: 1, spoiled: 3, doubled: 2, ..found };
-    assert_eq!(format!("{mixed}"), format!("{words}: 3 files, 1 damaged, by --meta up to 7 too, 3 blocks without magic, 2 ids twice"));
+    let mixed = Candidate { last_meta: 7, damaged: 1, spoiled: 3, ..found };
+    assert_eq!(format!("{mixed}"), format!("{words}: 3 files, 1 damaged, by --meta up to 7 too, 3 blocks without magic"));
+    // (of what may be two volumes the size isn't told)
+    let two = Candidate { doubled: 2, ..found };
+    let less = words.replace(" --size 65536", "");
+    assert_eq!(format!("{two}"), format!("{less}: 3 files, 0 damaged, header pages twice: 2"));
     let line = format!("put i f {words}");
     assert!(!wants_detect(&asked(&line)));
     assert_eq!(settle(&asked(&line), 1 << 20, &[]), Ok(Volume { at: 4096, ..VOLUME }));
