@@ -12,7 +12,7 @@ use Rattle.front_words.specs.declared.settling.Volume.{Volume}
 use Rattle.front_words.specs.declared.settling.Unsettled.{Unsettled}
 use Rattle.front_words.specs.declared.settling.Unsettled.TheVariants.{NoSize, Uneven, Several, AnyMeta, Spoiled, Doubled, Harmed, TooFar}
 use Rattle.front_words.specs.Asking.{changes}
-use Rattle.front_words.specs.Settling.{no_rival, writes, is_harmed, unless_harmed, none_sure, alone_in, sure_by, sure, chosen_by, told_volume, first_of, known_page, known_block, known_meta, known_magic, start_of, bytes_of, sized, fits, fits_magic, agrees, found_volume, with_meta, as_good, chosen, agreeing, settled_by, end_of, reached, settled, needs_found, IsAsGiven, KeepsNumbers}
+use Rattle.front_words.specs.Settling.{no_rival, writes, may_be_two, is_harmed, unless_harmed, none_sure, alone_in, sure_by, sure, chosen_by, told_volume, first_of, known_page, known_block, known_meta, known_magic, start_of, bytes_of, sized, fits, fits_magic, agrees, found_volume, with_meta, as_good, chosen, agreeing, settled_by, end_of, reached, settled, needs_found, IsAsGiven, KeepsNumbers}
 
 both : (a b : Bool) → (a && b) ≡ true → (a ≡ true) × (b ≡ true)
 both true true h = (refl, refl)
@@ -120,7 +120,7 @@ filter_all t [] = refl
 filter_all t (x ∷ xs) = ⊎_elim (λ (yes : t x ≡ true). rw yes (rw yes (filter_all t xs))) (λ (no : t x ≡ false). rw no (filter_all t xs)) (cases_Bool (t x))
 
 harmed_keeps : (asked : Asked) (c : Candidate) (v : Volume) → agrees asked c ≡ true → unless_harmed asked c ≡ Ok v → KeepsNumbers asked v
-harmed_keeps asked c v fine h = go (nat_lt 0 c.doubled) (nat_le 2 c.spoiled) (is_harmed asked c) h
+harmed_keeps asked c v fine h = go (may_be_two asked c) (nat_le 2 c.spoiled) (is_harmed asked c) h
   where
     go : (two torn harmed : Bool) → cond two (Err (Doubled c.doubled)) (cond torn (Err (Spoiled c.spoiled)) (cond harmed (Err (Harmed c.damaged)) (with_meta asked c (known_meta asked)))) ≡ Ok v → KeepsNumbers asked v
     go true torn harmed h = cc

@@ -11,7 +11,7 @@ use Rattle.front_words.specs.declared.settling.Volume.{Volume}
 use Rattle.front_words.specs.declared.settling.Unsettled.{Unsettled}
 use Rattle.front_words.specs.declared.settling.Unsettled.TheVariants.{AnyMeta, Spoiled, Doubled, Harmed}
 use Rattle.front_words.specs.Asking.{changes}
-use Rattle.front_words.specs.Settling.{no_rival, writes, edits, is_harmed, unless_harmed, none_sure, alone_in, sure_by, sure, told_volume, chosen, found_volume, with_meta}
+use Rattle.front_words.specs.Settling.{no_rival, writes, edits, most_doubled, may_be_two, is_harmed, unless_harmed, none_sure, alone_in, sure_by, sure, told_volume, chosen, found_volume, with_meta}
 use Rattle.front_words.specs.Settling.{known_page, known_block, known_meta, known_magic, agreeing, settled_by, settled, needs_found, reached, IsSafe, MayBeWritten}
 use Rattle.front_words.proofs.Keeping.{reached_is}
 
@@ -30,6 +30,13 @@ below n h = leb-false 2 n h
 no_one : (n : ℕ) → nat_lt 0 n ≡ false → n ≡ 0
 no_one n h = let le = ltb-false 0 n h in omega (arith, le)
 
+not_two : (asked : Asked) (c : Candidate) → may_be_two asked c ≡ false → asked.is_forced ≡ false → c.doubled ≤ most_doubled c.magic
+not_two asked c h free = ltb-false (most_doubled c.magic) c.doubled (rest asked.is_forced (nat_lt (most_doubled c.magic) c.doubled) free h)
+  where
+    rest : (f b : Bool) → f ≡ false → (not f && b) ≡ false → b ≡ false
+    rest false b g k = k
+    rest true b g k = absurd (false≢true (sym g))
+
 not_harmed : (asked : Asked) (c : Candidate) → is_harmed asked c ≡ false → edits asked.word ≡ true → asked.is_forced ≡ false → c.damaged ≡ 0
 not_harmed asked c h edit free = no_one c.damaged (rest (edits asked.word) asked.is_forced (nat_lt 0 c.damaged) edit free h)
   where
@@ -39,15 +46,15 @@ not_harmed asked c h edit free = no_one c.damaged (rest (edits asked.word) asked
     rest false f b e g k = absurd (false≢true e)
 
 safe : (asked : Asked) (all : List Candidate) (c : Candidate) (v : Volume) → list_all (no_rival c) all ≡ true → unless_harmed asked c ≡ Ok v → IsSafe asked all c v
-safe asked all c v alone h = go (nat_lt 0 c.doubled) (nat_le 2 c.spoiled) (is_harmed asked c) refl refl refl h
+safe asked all c v alone h = go (may_be_two asked c) (nat_le 2 c.spoiled) (is_harmed asked c) refl refl refl h
   where
-    go : (two torn harmed : Bool) → nat_lt 0 c.doubled ≡ two → nat_le 2 c.spoiled ≡ torn → is_harmed asked c ≡ harmed →
+    go : (two torn harmed : Bool) → may_be_two asked c ≡ two → nat_le 2 c.spoiled ≡ torn → is_harmed asked c ≡ harmed →
         cond two (Err (Doubled c.doubled)) (cond torn (Err (Spoiled c.spoiled)) (cond harmed (Err (Harmed c.damaged)) (with_meta asked c (known_meta asked)))) ≡ Ok v → IsSafe asked all c v
     go true torn harmed d t w h = cc
     go false true harmed d t w h = cc
     go false false true d t w h = cc
     go false false false d t w h = record
-        { alone = alone; marked = below c.spoiled t; apart = no_one c.doubled d; whole = not_harmed asked c w; taken = meta_taken asked c (known_meta asked) v h }
+        { alone = alone; marked = below c.spoiled t; apart = not_two asked c d; whole = not_harmed asked c w; taken = meta_taken asked c (known_meta asked) v h }
 
 none_ok : (all : List Candidate) (v : Volume) → none_sure all ≡ Ok v → ⊥
 none_ok [] v h = cc

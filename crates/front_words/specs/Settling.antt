@@ -1,5 +1,5 @@
 -- The numbers of the volume that a line means.
-use Rattle.std.specs.Prelude.{◌≡◌, ℕ, ◌+◌, ◌-◌, ◌*◌, ◌/◌, ◌%◌, ◌<◌, List, Contains, [], ◌∷◌, filter, Bool, true, false, not, Option, Some, None, is_none, option_map}
+use Rattle.std.specs.Prelude.{◌≡◌, ◌≤◌, ℕ, ◌+◌, ◌-◌, ◌*◌, ◌/◌, ◌%◌, ◌<◌, List, Contains, [], ◌∷◌, filter, Bool, true, false, not, Option, Some, None, is_none, option_map}
 use Rattle.std.specs.Prelude.{unwrap_or, Result, Ok, Err, ◌==◌, ◌&&◌, ◌||◌, nat_le, nat_lt, if◌then◌else◌}
 use Rattle.geometry.specs.declared.magic.MagicKind.{MagicKind}
 use Rattle.std.specs.List.{list_all}
@@ -138,11 +138,24 @@ edits _ = false
 abbrev pub is_harmed : Asked → Candidate → Bool
 is_harmed asked c = (edits asked.word && not asked.is_forced) && nat_lt 0 c.damaged
 
--- One that a line would change: not where an id has two live header pages, since two volumes may stand end to end, nor where two or more of its
--- blocks lack their magic, nor while ids are damaged.
+-- How many ids of a volume may have two live header pages: one may be left so by a power cut. A `plain` row doesn't tell its own end, and one such
+-- id may be a file of each of two volumes.
+abbrev pub most_doubled : MagicKind → ℕ
+most_doubled Plain = 0
+most_doubled Length = 1
+
+-- more have, so two volumes may stand end to end
+abbrev pub is_doubled : Candidate → Bool
+is_doubled c = nat_lt (most_doubled c.magic) c.doubled
+
+-- it may be two, and nothing says that it may be written all the same
+abbrev pub may_be_two : Asked → Candidate → Bool
+may_be_two asked c = not asked.is_forced && is_doubled c
+
+-- One that a line would change: not where it may be two, nor where two or more of its blocks lack their magic, nor while ids are damaged.
 abbrev pub unless_harmed : Asked → Candidate → Result Volume Unsettled
 unless_harmed asked c =
-    if nat_lt 0 c.doubled then Err (Doubled c.doubled)
+    if may_be_two asked c then Err (Doubled c.doubled)
     else if nat_le 2 c.spoiled then Err (Spoiled c.spoiled)
     else if is_harmed asked c then Err (Harmed c.damaged)
     else with_meta asked c (known_meta asked)
@@ -225,12 +238,12 @@ pub record KeepsNumbers (asked : Asked) (v : Volume) : Type 0 where
   pub at : IsAsGiven asked.at v.at
   pub size : IsAsGiven asked.size (v.block * v.blocks)
 
--- Of all that were found and agree, no other leaves doubt of `c`; no id of it has two live header pages; at most one of its blocks lacks its
--- magic; no id is damaged, or that is no matter for the line; and the volume has its numbers.
+-- Of all that were found and agree, no other leaves doubt of `c`; no more of its ids have two live header pages than may, or `--force` is given; at
+-- most one of its blocks lacks its magic; no id is damaged, or that is no matter for the line; and the volume has its numbers.
 pub record IsSafe (asked : Asked) (all : List Candidate) (c : Candidate) (v : Volume) : Type 0 where
   pub alone : list_all (no_rival c) all ≡ true
   pub marked : c.spoiled < 2
-  pub apart : c.doubled ≡ 0
+  pub apart : asked.is_forced ≡ false → c.doubled ≤ most_doubled c.magic
   pub whole : edits asked.word ≡ true → asked.is_forced ≡ false → c.damaged ≡ 0
   pub taken : v ≡ found_volume c v.meta
 

@@ -32,6 +32,5 @@ pub use script::{
 };
 pub use settling::{
     Candidate, Unsettled, Volume, choose_sure, known_block, known_meta, known_page, settle,
-    wants_detect,
-};
+    wants_detect, is_doubled};
 pub use word::{Preset, Word, is_own};

@@ -5,7 +5,7 @@ ghost use Rattle.front_words.specs.Settling.{known_meta as the_meta, known_magic
 ghost use Rattle.front_words.specs.Settling.{fits_magic, same_magic, agrees as the_agreement, found_volume as the_volume, with_meta as the_meta_of, as_good};
 ghost use Rattle.front_words.specs.Settling.{chosen, agreeing, end_of, reached, settled, needs_found};
 ghost use Rattle.front_words.specs.Settling.{same_numbers, lies_in as the_lying, lies_apart as the_apart, reads_none as the_none_read, reads_worse as the_worse_read};
-ghost use Rattle.front_words.specs.Settling.{is_coarser as the_coarser, no_rival, writes as the_writing, edits as the_edit, is_harmed as the_harmed, unless_harmed as the_unharmed, none_sure as the_none, alone_in, chosen_by as the_choice, sure, told_volume};
+ghost use Rattle.front_words.specs.Settling.{is_coarser as the_coarser, no_rival, writes as the_writing, edits as the_edit, is_harmed as the_harmed, most_doubled as the_most_doubled, is_doubled as the_doubled, may_be_two as the_two, unless_harmed as the_unharmed, none_sure as the_none, alone_in, chosen_by as the_choice, sure, told_volume};
 
 use crate::asked::{Asked, changes, makes};
 use crate::word::{Preset, Word};
@@ -413,6 +413,31 @@ fn edits(word: Word) -> bool
     matches!(word, Word::Put | Word::Rm | Word::Mv)
 }
 
+// How many ids of a volume may have two header pages.
+fn most_doubled(magic: MagicKind) -> u32
+    ensures { result ≡ the_most_doubled magic }
+{
+    match magic {
+        MagicKind::Plain => 0,
+        MagicKind::Length => 1,
+    }
+}
+
+/// Whether more ids of one that was found have two header pages than a power cut leaves, so that two volumes may stand end to end: of a `plain`
+/// row, which doesn't tell its own end, one such id is more.
+pub fn is_doubled(found: &Candidate) -> bool
+    ensures { result ≡ the_doubled found.now }
+{
+    found.doubled > most_doubled(found.magic)
+}
+
+// Whether one that was found may be two, and nothing says that it may be written all the same.
+fn may_be_two(asked: &Asked, found: &Candidate) -> bool
+    ensures { result ≡ the_two asked.now found.now }
+{
+    !asked.is_forced && is_doubled(found)
+}
+
 // Whether ids of one that was found are damaged, and nothing says that they may be removed.
 fn is_harmed(asked: &Asked, found: &Candidate) -> bool
     ensures { result ≡ the_harmed asked.now found.now }
@@ -424,7 +449,7 @@ fn is_harmed(asked: &Asked, found: &Candidate) -> bool
 fn unless_harmed(asked: &Asked, found: &Candidate) -> Result<Volume, Unsettled>
     ensures { result ≡ the_unharmed asked.now found.now }
 {
-    if found.doubled > 0 {
+    if may_be_two(asked, found) {
         return Err(Unsettled::Doubled(found.doubled));
     }
     if found.spoiled >= 2 {

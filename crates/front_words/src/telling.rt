@@ -1,7 +1,7 @@
 //! Why a line is refused, in words for the one who gave it.
 use crate::asked::Refusal;
 use crate::option::Slot;
-use crate::settling::{Candidate, Unsettled, Volume, found_volume};
+use crate::settling::{Candidate, Unsettled, Volume, found_volume, is_doubled};
 use crate::word::Word;
 use geometry::MagicKind;
 use std::fmt;
@@ -140,15 +140,16 @@ impl fmt::Display for Volume {
 }
 
 // The options that choose a volume that was found, but for its size where two may stand in it: whoever means both has to give that.
+#[derive(Clone, Copy)]
 struct Choice {
     volume: Volume,
-    doubled: u32,
+    is_doubled: bool,
 }
 
 impl fmt::Display for Choice {
     fn fmt<W: fmt::Write>(&self, f: &mut fmt::Formatter<W>) -> fmt::Result {
         let volume = self.volume;
-        if self.doubled == 0 {
+        if !self.is_doubled {
             return write!(f, "{volume}");
         }
         let Volume {
@@ -180,7 +181,8 @@ impl fmt::Display for Candidate {
             doubled,
             ..
         } = *self;
-        let choice = Choice { volume, doubled };
+        let is_doubled = is_doubled(self);
+        let choice = Choice { volume, is_doubled };
         write!(f, "{choice}: {whole} files, {damaged} damaged")?;
         if first_meta != last_meta {
             write!(f, ", by --meta up to {last_meta} too")?;
@@ -226,7 +228,7 @@ impl fmt::Display for Unsettled {
             Unsettled::Doubled(ids) => {
                 write!(
                     f,
-                    "header pages twice: {ids}; two volumes may stand end to end, or a power cut was never checked: give all numbers of one, --size too"
+                    "header pages twice: {ids}; two volumes may stand end to end, or a power cut was never checked: give all numbers of one, --size too, or --force"
                 )
             }
             Unsettled::Harmed(damaged) => {

@@ -2,12 +2,12 @@
 use crate::limit::SizeLimit;
 use crate::shown::Shown;
 use crate::trouble::{Step, Trouble};
-use crate::{Access, HeldFile};
+use crate::HeldFile;
 use std::alloc::{AllocError, Global};
 use std::fmt::Write;
 use std::fs::{File, Metadata, OpenOptions};
 use std::io::ErrorKind;
-use std::os::unix::fs::{MetadataExt, OpenOptionsExt, PermissionsExt};
+use std::os::unix::fs::{MetadataExt, OpenOptionsExt, PermissionsExt, fchown};
 use std::rt::Files;
 use std::{fs, io};
 
@@ -28,6 +28,9 @@ const OWN_MODE: u32 = 0o600;
 
 /// The bits of a mode that are no kind of file.
 const MODE_BITS: u32 = 0o7777;
+
+/// Those of them that tell who may do what.
+const ACCESS_BITS: u32 = 0o777;
 
 /// Bytes that are written at a time.
 const PIECE: usize = 1_048_576;
@@ -126,7 +129,10 @@ fn make_beside<R: Files<File = File>>(
             Err(why) => return Err(failed(alloc, Step::Make, beside.as_str(), why)),
         }
     }
-    let why = io::Error::from(ErrorKind::AlreadyExists);
+    let why = io::Error::new(
+        ErrorKind::AlreadyExists,
+        "999 files that were left beside it stand there: delete those that end with .spiffs-N",
+    );
     Err(failed(alloc, Step::Make, path, why))
 }
 
@@ -140,17 +146,28 @@ fn write_bytes(file: &File, limit: SizeLimit, bytes: &[u8]) -> io::Result<()> {
     Ok(())
 }
 
-// Gives the file the owner and the mode of an old one. Only root can give an owner; else the file is its maker's.
+// Gives the file the owner and the group of an old one, as far as the process may, and answers whether it has both then.
+fn give_owner(file: &File, old: &Metadata) -> io::Result<bool> {
+    let own = file.metadata()?;
+    if own.uid() == old.uid() && own.gid() == old.gid() {
+        return Ok(true);
+    }
+    if fchown(file, Some(old.uid()), Some(old.gid())).is_err() {
+        // (only root can give an owner, and a group only who is in it)
+        let _given = fchown(file, None, Some(old.gid()));
+    }
+    let own = file.metadata()?;
+    Ok(own.uid() == old.uid() && own.gid() == old.gid())
+}
+
+// Gives the file the owner, the group and the mode of an old one. A file that has another owner or group doesn't run as them.
 fn give_mode(file: &File, old: Option<&Metadata>) -> io::Result<()> {
     let Some(old) = old else {
         return Ok(());
     };
-    let own = file.metadata()?;
-    if own.uid() != old.uid() || own.gid() != old.gid() {
-        let _given = std::os::unix::fs::fchown(file, Some(old.uid()), Some(old.gid()));
-    }
+    let bits = if give_owner(file, old)? { MODE_BITS } else { ACCESS_BITS };
     let mut mode = old.permissions();
-    mode.set_mode(old.mode() & MODE_BITS);
+    mode.set_mode(old.mode() & bits);
     file.set_permissions(mode)
 }
 
@@ -203,23 +220,27 @@ fn sync_folder<R: Files<File = File>>(rt: &R, alloc: Global, path: &str) -> Resu
     }
 }
 
-// The old file, held by this process: the one that is, or one that is opened here. None where there is no old file.
-fn hold_old<R: Files<File = File>>(rt: &R, path: &str) -> Result<Option<HeldFile>, Trouble> {
+// Refuses to make a file where one stands, which another program has made meanwhile.
+fn check_none<R: Files<File = File>>(rt: &R, path: &str) -> Result<(), Trouble> {
     match fs::symlink_metadata(rt, path) {
-        Ok(_) => Ok(Some(HeldFile::open(rt, path, Access::Write)?)),
-        Err(why) if why.kind() == ErrorKind::NotFound => Ok(None),
+        Ok(_) => Err(Trouble::Busy),
+        Err(why) if why.kind() == ErrorKind::NotFound => Ok(()),
         Err(why) => Err(Trouble::Open(why)),
     }
 }
 
-// Refuses to replace what isn't the file that is held, or is a device.
+// Refuses to replace what isn't the file that is held, as it was then, or is a device.
 fn check_old<R: Files<File = File>>(
     rt: &R,
     path: &str,
     held: &HeldFile,
 ) -> Result<Metadata, Trouble> {
-    let told = fs::metadata(rt, path).map_err(Trouble::Open)?;
-    if !held.is_same(&told) {
+    let told = fs::symlink_metadata(rt, path).map_err(Trouble::Open)?;
+    if told.is_symlink() {
+        let why = io::Error::new(ErrorKind::InvalidInput, "its link can't be followed");
+        return Err(Trouble::Open(why));
+    }
+    if !held.is_same(&told) || (told.is_file() && told.len() != held.length()) {
         return Err(Trouble::Busy);
     }
     if held.is_device() {
@@ -244,8 +265,8 @@ fn replace<R: Files<File = File>>(
 
 /// Puts a file of these bytes in the place of the plain file that a path leads to, or makes it: written beside it under a name of its own,
 /// with the old file's mode bits, synced, renamed, and its folder synced. Until the renaming the old file stands as it was, and where
-/// anything before it fails what was written beside is removed. `held` is the old file where the caller holds it; else its lock is
-/// taken here.
+/// anything before it fails what was written beside is removed. `held` is the old file, which the caller holds; where there is none, a file
+/// that stands there by now was made by another program.
 pub fn replace_file<R: Files<File = File>>(
     rt: &R,
     alloc: Global,
@@ -259,9 +280,6 @@ pub fn replace_file<R: Files<File = File>>(
         let old = check_old(rt, path, held)?;
         return replace(rt, alloc, path, Some(&old), bytes);
     }
-    let Some(own) = hold_old(rt, path)? else {
-        return replace(rt, alloc, path, None, bytes);
-    };
-    let old = check_old(rt, path, &own)?;
-    replace(rt, alloc, path, Some(&old), bytes)
+    check_none(rt, path)?;
+    replace(rt, alloc, path, None, bytes)
 }

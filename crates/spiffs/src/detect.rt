@@ -74,7 +74,11 @@ fn chip_size(chips: &[FileChip]) -> Result<u32, Refusal> {
 // The row of the chip files, for reading alone.
 fn row_of(rt: &HostRuntime, words: &[String]) -> Result<ChipRow<FileChip>, Refusal> {
     let opened = open_chips(rt, chip_word(words))?;
-    let size = chip_size(&opened)?;
+    let Ok(size) = chip_size(&opened) else {
+        // (if standard error fails too there is nobody to tell)
+        let _said = eprintln!(rt; "spiffs: a chip of 2^32 bytes or more isn't looked through: give its numbers to list");
+        return Err(Refusal::Chips);
+    };
     let mut chips = Vec::new(rt.alloc());
     for chip in opened {
         chips.push(chip.resized(size, 1)).map_err(AllocError::from)?;

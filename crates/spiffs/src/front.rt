@@ -6,7 +6,7 @@ use crate::picture::picture;
 use crate::room::{df, size};
 use crate::save::{end_image, is_replaced, save_copy, sync_image};
 use crate::stop::Stop;
-use crate::store::{put, remove, rename};
+use crate::store::{put, read_early, remove, rename};
 use crate::trees::{pack, unpack};
 use crate::usage::wrong_word;
 use crate::{Refusal, USAGE, has_repaired, take_memory, tell};
@@ -96,14 +96,19 @@ fn check(rt: &HostRuntime, meant: &Meant<'_>) -> Result<u8, Stop> {
     Ok(end_told(rt, meant, &told))
 }
 
-// Does what a word asks of an image.
-fn do_word(rt: &HostRuntime, meant: &mut Meant<'_>, word: Word) -> Result<u8, Stop> {
+// Does what a word asks of an image; the bytes that it puts may have been read.
+fn do_word(
+    rt: &HostRuntime,
+    meant: &mut Meant<'_>,
+    word: Word,
+    early: Option<Vec<u8>>,
+) -> Result<u8, Stop> {
     match word {
         Word::Pack | Word::Gen => pack(rt, meant),
         Word::Unpack => unpack(rt, meant),
         Word::Fsck => check(rt, meant),
         Word::Cat => cat(rt, meant),
-        Word::Put => put(rt, meant),
+        Word::Put => put(rt, meant, early),
         Word::Rm => remove(rt, meant),
         Word::Mv => rename(rt, meant),
         Word::Df => df(rt, meant),
@@ -117,8 +122,9 @@ fn perform(rt: &HostRuntime, words: &[String], asked: Asked) -> Result<u8, Stop>
     if asked.word == Word::Size {
         return size(rt, words, &asked);
     }
+    let early = read_early(rt, words, &asked);
     let mut meant = find_meant(rt, words, asked)?;
-    let status = do_word(rt, &mut meant, asked.word)?;
+    let status = do_word(rt, &mut meant, asked.word, early)?;
     Ok(end_image(rt, &meant, status))
 }
 

@@ -1,5 +1,6 @@
 //! A command of the top call on one chip: the image's file, a part of it, or a copy in memory. What it says is held back until it has ended.
-use crate::look::{Seen, look_on};
+use crate::guard::{Force, Holding, tell_others, wants_whole};
+use crate::look::{Seen, geometry_of, look_on};
 use crate::meant::{Meant, tell_found_in};
 use crate::stop::Stop;
 use crate::{
@@ -173,6 +174,36 @@ fn refuse_harmed<C: HostChip>(
     })
 }
 
+// Whether other numbers may be meant by a line that writes, which is said; it goes on behind `--force`.
+fn is_other(
+    rt: &HostRuntime,
+    meant: &Meant<'_>,
+    guard: Guard,
+    seen: Option<Seen>,
+) -> Result<bool, Refusal> {
+    let removes = matches!(guard, Guard::Removes | Guard::Rehearses);
+    let (Some(seen), Some(held), Some(given)) = (seen, &meant.held, geometry_of(&meant.top)) else {
+        return Ok(false);
+    };
+    let at = meant.volume.at;
+    if !removes || meant.asked.is_forced || !wants_whole(&given, at, &seen, held.length()) {
+        return Ok(false);
+    }
+    let Ok(size) = u32::try_from(held.length()) else {
+        return Ok(false);
+    };
+    let mut bytes = vec![in rt.alloc(); 0u8; size as usize]?;
+    if held.read_at(0, &mut bytes).is_err() {
+        return Ok(false);
+    }
+    let holding = Holding { bytes: &bytes, at };
+    let force = Force {
+        lost: seen.damaged,
+        removes: true,
+    };
+    tell_others(rt, meant.image, &given, &seen, &holding, force)
+}
+
 /// Gives the command of the top call that a line means, on a row of one chip, with a script and a folder.
 pub fn give_on<C: HostChip, F: Folder>(
     rt: &HostRuntime,
@@ -186,7 +217,7 @@ pub fn give_on<C: HostChip, F: Folder>(
     let mut board = StdBoard::new(row, Vec::new(rt.alloc()));
     let looked = look(meant, guard, &mut board, memory);
     let seen = looked.unwrap_or(None);
-    let is_better = is_refused(rt, seen);
+    let is_better = is_other(rt, meant, guard, seen)? || is_refused(rt, seen);
     if looked.is_ok() && !is_better && is_harmed(meant, guard, seen) {
         return refuse_harmed(rt, meant, board, memory, seen, guard);
     }

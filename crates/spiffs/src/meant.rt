@@ -5,7 +5,7 @@ use crate::stop::Stop;
 use crate::{BOARD_FAULT, NO_VOLUME, OTHER_META, USAGE, tell};
 use front_words::{
     Asked, Candidate, Unsettled, Volume, Word, choose_sure, image_word, settle, top_words,
-    wants_detect,
+    is_doubled, wants_detect,
 };
 use host_edge::{Access, HeldFile, Shown, Trouble};
 use std::alloc::{AllocError, Global};
@@ -108,6 +108,8 @@ fn hold_image(rt: &HostRuntime, image: &str, asked: &Asked) -> Result<Option<Hel
     }
     match HeldFile::open(rt, image, access_of(asked)) {
         Ok(held) => Ok(Some(held)),
+        // (what `cat` prints may be taken for the file)
+        Err(why) if why.is_busy() && asked.word == Word::Cat => Err(fail(rt, image, &why, BUSY)),
         Err(why) => Err(refuse_image(rt, image, &why)),
     }
 }
@@ -163,6 +165,9 @@ fn ranked(alloc: Global, found: &[Found]) -> Result<Vec<Candidate>, AllocError> 
 // The volumes that the image may hold, the best first; none of one that has 2^32 bytes or more.
 fn look_for(rt: &HostRuntime, image: &str, held: &HeldFile) -> Result<Vec<Candidate>, Stop> {
     let Ok(size) = u32::try_from(held.length()) else {
+        let image = Shown(image);
+        // (if standard error fails too there is nobody to tell)
+        let _said = eprintln!(rt; "spiffs: {image}: has 2^32 bytes or more, and isn't looked through: give all numbers");
         return Ok(Vec::new(rt.alloc()));
     };
     if !may_hold_one(rt, held, size)? {
@@ -316,12 +321,12 @@ fn begins_as(found: &Candidate, volume: &Volume) -> bool {
         && found.magic == volume.magic
 }
 
-// Whether a line writes to a volume of which it gives all numbers but the size: then two that stand end to end may be meant.
+// Whether a line writes to a volume of which it gives all numbers, and doesn't say by `--force` that it is one.
 fn may_mean_two(asked: &Asked) -> bool {
-    writes(asked) && !wants_detect(asked) && asked.size.is_none()
+    writes(asked) && !wants_detect(asked) && !asked.is_forced
 }
 
-// Refuses a volume where ids of it have two header pages or more, and nothing says how many bytes it has.
+// Refuses a volume in which two may stand end to end.
 fn check_one(
     rt: &HostRuntime,
     image: &str,
@@ -337,7 +342,7 @@ fn check_one(
     }
     let found = look_for(rt, image, held)?;
     for one in found.iter() {
-        if one.doubled > 0 && begins_as(one, volume) {
+        if is_doubled(one) && begins_as(one, volume) {
             let why = Unsettled::Doubled(one.doubled);
             return Err(refuse_volume(rt, image, asked, &found, why));
         }

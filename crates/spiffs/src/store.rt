@@ -11,7 +11,7 @@ use crate::{
 };
 use chip_row::ChipRow;
 use front_edge::HostChip;
-use front_words::{SCRATCH, can_be_put, make_working, place};
+use front_words::{Asked, SCRATCH, Word, can_be_put, image_word, make_working, place};
 use host_edge::{Shown, StdFolder, Trouble};
 use std::alloc::{AllocError, Global};
 use std::io::Read;
@@ -226,9 +226,36 @@ fn read_some(rt: &HostRuntime, path: &str, most: usize) -> io::Result<Vec<u8>> {
     Ok(bytes)
 }
 
-// The bytes of a host file that is to be put. One that is longer than the volume is refused: a plain file before it is read, and any other once
-// more than the volume has was read.
-fn read_file(rt: &HostRuntime, meant: &Meant<'_>, path: &str) -> Result<Vec<u8>, Stop> {
+/// The bytes that a line puts, where they come through a pipe or from a device: read before the image is held, since the program that gives them may
+/// read that image. Of more than the image has no more are read. None where there is another reason to read them later.
+pub fn read_early(rt: &HostRuntime, words: &[String], asked: &Asked) -> Option<Vec<u8>> {
+    if asked.word != Word::Put {
+        return None;
+    }
+    let path = text_of(place(words, 2));
+    let told = fs::metadata(rt, path).ok()?;
+    let image = fs::metadata(rt, text_of(image_word(words, asked))).ok()?;
+    if told.is_file() || told.is_dir() || !image.is_file() {
+        return None;
+    }
+    read_some(rt, path, usize::try_from(image.len()).ok()?).ok()
+}
+
+// The bytes of a host file that is to be put, unless they were read before. One that is longer than the volume is refused: a plain file before it
+// is read, and any other once more than the volume has was read.
+fn read_file(
+    rt: &HostRuntime,
+    meant: &Meant<'_>,
+    path: &str,
+    early: Option<Vec<u8>>,
+) -> Result<Vec<u8>, Stop> {
+    if let Some(bytes) = early {
+        return if bytes.len() > meant.size as usize {
+            Err(refuse(rt, path, FsErr::Full))
+        } else {
+            Ok(bytes)
+        };
+    }
     let told = match fs::metadata(rt, path) {
         Ok(told) => told,
         Err(why) => return Err(no_file(rt, path, why)),
@@ -265,7 +292,7 @@ fn put_script(
 }
 
 /// Puts a host file onto the volume, in the place of one with that name.
-pub fn put(rt: &HostRuntime, meant: &Meant<'_>) -> Result<u8, Stop> {
+pub fn put(rt: &HostRuntime, meant: &Meant<'_>, early: Option<Vec<u8>>) -> Result<u8, Stop> {
     let path = text_of(place(meant.words, 2));
     let target = target_of(rt.alloc(), meant, path)?;
     let given = match place(meant.words, 3) {
@@ -280,7 +307,7 @@ pub fn put(rt: &HostRuntime, meant: &Meant<'_>) -> Result<u8, Stop> {
     make_working(&mut turned);
     let working = checked(rt, given, &turned)?;
     let scratch = checked(rt, given, SCRATCH)?;
-    let bytes = read_file(rt, meant, path)?;
+    let bytes = read_file(rt, meant, path, early)?;
     let script = put_script(rt.alloc(), name, working, scratch, &bytes)?;
     change(rt, meant, &script)
 }

@@ -49,12 +49,12 @@ fn an_image_that_is_made_has_the_numbers_of_esp_idf() {
 #[test]
 fn numbers_that_are_left_out_come_from_the_file() {
     let second = Candidate { at: 4096, whole: 1, ..FOUND };
-    let equal = Candidate { block: 8192, blocks: 8, ..FOUND };
+    let equal = Candidate { page: 512, block: 8192, blocks: 8, ..FOUND };
     let any_meta = Candidate { first_meta: 0, last_meta: 64, whole: 0, ..FOUND };
     for (line, found, wanted) in [
         ("ls i", [FOUND, second], Ok(VOLUME)),
         ("ls i", [FOUND, equal], Err(Unsettled::Several)),
-        ("ls i -b 8K", [FOUND, equal], Ok(Volume { block: 8192, blocks: 8, ..VOLUME })),
+        ("ls i -b 8K", [FOUND, equal], Ok(Volume { page: 512, block: 8192, blocks: 8, ..VOLUME })),
         ("ls i -b 4K", [FOUND, equal], Ok(VOLUME)),
         ("ls i -b 16K", [FOUND, equal], Err(Unsettled::NoneFound)),
         ("ls i --at 4096", [FOUND, second], Ok(Volume { at: 4096, ..VOLUME })),
@@ -115,10 +115,12 @@ fn a_line_that_writes_goes_on_where_one_volume_is_meant() {
         ("put i f --force", vec![torn], Err(Unsettled::Spoiled(2))),
         ("fsck i --repair", vec![torn], Err(Unsettled::Spoiled(2))),
         ("ls i", vec![torn], Ok(VOLUME)),
-        ("put i f", vec![cut], Err(Unsettled::Doubled(1))),
-        ("put i f --force", vec![two], Err(Unsettled::Doubled(2))),
+        ("put i f", vec![cut], Ok(VOLUME)),
+        ("put i f", vec![Candidate { magic: MagicKind::Plain, ..cut }], Err(Unsettled::Doubled(1))),
+        ("put i f", vec![two], Err(Unsettled::Doubled(2))),
+        ("put i f --force", vec![two], Ok(VOLUME)),
         ("fsck i --repair", vec![two], Err(Unsettled::Doubled(2))),
-        ("put i f -s 64K --force", vec![two], Err(Unsettled::Doubled(2))),
+        ("put i f -s 64K", vec![two], Err(Unsettled::Doubled(2))),
         ("df i", vec![two], Ok(VOLUME)),
         ("rm i f -b 8K", vec![FOUND], Err(Unsettled::NoneFound)),
     ] {
