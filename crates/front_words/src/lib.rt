@@ -31,6 +31,7 @@ pub use script::{
     remove_line, rename_line, write_line,
 };
 pub use settling::{
-    Candidate, Unsettled, Volume, choose_sure, known_block, known_meta, known_page, settle,
-    wants_detect, is_doubled};
+    Candidate, Unsettled, Volume, choose_sure, is_doubled, known_block, known_meta, known_page,
+    settle, wants_detect,
+};
 pub use word::{Preset, Word, is_own};

@@ -1,8 +1,8 @@
 //! Putting a new file in the place of an old one, so that a cut of the host leaves one of both, whole.
+use crate::HeldFile;
 use crate::limit::SizeLimit;
 use crate::shown::Shown;
 use crate::trouble::{Step, Trouble};
-use crate::HeldFile;
 use std::alloc::{AllocError, Global};
 use std::fmt::Write;
 use std::fs::{File, Metadata, OpenOptions};
@@ -165,7 +165,11 @@ fn give_mode(file: &File, old: Option<&Metadata>) -> io::Result<()> {
     let Some(old) = old else {
         return Ok(());
     };
-    let bits = if give_owner(file, old)? { MODE_BITS } else { ACCESS_BITS };
+    let bits = if give_owner(file, old)? {
+        MODE_BITS
+    } else {
+        ACCESS_BITS
+    };
     let mut mode = old.permissions();
     mode.set_mode(old.mode() & bits);
     file.set_permissions(mode)

@@ -76,7 +76,9 @@ fn row_of(rt: &HostRuntime, words: &[String]) -> Result<ChipRow<FileChip>, Refus
     let opened = open_chips(rt, chip_word(words))?;
     let Ok(size) = chip_size(&opened) else {
         // (if standard error fails too there is nobody to tell)
-        let _said = eprintln!(rt; "spiffs: a chip of 2^32 bytes or more isn't looked through: give its numbers to list");
+        let _said = eprintln!(rt;
+            "spiffs: a chip of 2^32 bytes or more isn't looked through: give its numbers to list"
+        );
         return Err(Refusal::Chips);
     };
     let mut chips = Vec::new(rt.alloc());

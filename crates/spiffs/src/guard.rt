@@ -231,9 +231,7 @@ fn is_cut(holding: &Holding<'_>, g: &Geometry) -> bool {
 /// volume ends, and where the file, which has so many bytes, is shorter than the volume.
 pub fn wants_whole(g: &Geometry, at: u32, seen: &Seen, length: u64) -> bool {
     let size = u64::from(g.blocks()) * u64::from(g.block());
-    seen.damaged > 0
-        || g.magic == MagicKind::Plain
-        || length < u64::from(at).saturating_add(size)
+    seen.damaged > 0 || g.magic == MagicKind::Plain || length < u64::from(at).saturating_add(size)
 }
 
 /// Says why other numbers of blocks may be meant, or that the file is cut, and answers whether that was said.
@@ -306,12 +304,7 @@ fn tell_others_of(
 }
 
 // Says which chip of a row is shorter than its part of the volume, where ids are damaged.
-fn tell_short(
-    rt: &HostRuntime,
-    names: &str,
-    row: &ChipRow<FileChip>,
-    force: Force,
-) -> bool {
+fn tell_short(rt: &HostRuntime, names: &str, row: &ChipRow<FileChip>, force: Force) -> bool {
     for (chip, one) in row.chips().iter().enumerate() {
         let length = one.length();
         let size = one.size();

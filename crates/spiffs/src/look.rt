@@ -114,11 +114,7 @@ fn seen_by(given: u32, guess: Guess, removes: bool) -> Seen {
 }
 
 // How many files are whole, where no id is damaged: asked where a row of more blocks may begin there too, that is of a `plain` volume.
-fn whole_of<N: Nor>(
-    g: &Geometry,
-    nor: &mut N,
-    lent: &mut ReaderLent<'_>,
-) -> Result<u32, Failed> {
+fn whole_of<N: Nor>(g: &Geometry, nor: &mut N, lent: &mut ReaderLent<'_>) -> Result<u32, Failed> {
     if g.magic != MagicKind::Plain {
         return Ok(0);
     }

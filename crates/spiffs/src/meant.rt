@@ -4,8 +4,8 @@ use crate::detect::{PLACES, found_in, may_hold_one};
 use crate::stop::Stop;
 use crate::{BOARD_FAULT, NO_VOLUME, OTHER_META, USAGE, tell};
 use front_words::{
-    Asked, Candidate, Unsettled, Volume, Word, choose_sure, image_word, settle, top_words,
-    is_doubled, wants_detect,
+    Asked, Candidate, Unsettled, Volume, Word, choose_sure, image_word, is_doubled, settle,
+    top_words, wants_detect,
 };
 use host_edge::{Access, HeldFile, Shown, Trouble};
 use std::alloc::{AllocError, Global};
@@ -167,7 +167,9 @@ fn look_for(rt: &HostRuntime, image: &str, held: &HeldFile) -> Result<Vec<Candid
     let Ok(size) = u32::try_from(held.length()) else {
         let image = Shown(image);
         // (if standard error fails too there is nobody to tell)
-        let _said = eprintln!(rt; "spiffs: {image}: has 2^32 bytes or more, and isn't looked through: give all numbers");
+        let _said = eprintln!(rt;
+            "spiffs: {image}: has 2^32 bytes or more, and isn't looked through: give all numbers"
+        );
         return Ok(Vec::new(rt.alloc()));
     };
     if !may_hold_one(rt, held, size)? {
