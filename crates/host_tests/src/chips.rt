@@ -31,6 +31,7 @@ fn a_file_that_is_held_is_busy(rt: HostRuntime) -> Result<(), Fail> {
         assert!(rt; other.trouble().is_some_and(|why| why.is_busy()));
     }
     let mut chip = held.chip(8, 4);
+    assert!(rt; chip.size() == 8);
     let mut bytes = [0u8; 6];
     chip.read(2, &mut bytes).ok().ok_or("read")?;
     assert!(rt; bytes.as_slice() == b"cd\xFF\xFF\xFF\xFF".as_slice());
@@ -51,6 +52,7 @@ fn what_a_file_has_lost_is_a_fault(rt: HostRuntime) -> Result<(), Fail> {
     let path = path.as_str();
     fs::write(&rt, path, "abcdefgh")?;
     let mut chip = FileChip::new(&rt, path, Access::Write, 8, 4);
+    assert!(rt; (chip.size(), chip.last()) == (8, 0));
     assert!(rt; chip.finish().is_ok());
     cut(&rt, path, 5)?;
     assert!(rt; chip.finish().is_err());
