@@ -1,5 +1,6 @@
 /// What `--version` prints.
-pub const VERSION: &str = "spiffs 0.1.0, for volumes of SPIFFS 0.3.7\n";
+pub const VERSION: &str =
+    "spiffs 0.1.0, for volumes of SPIFFS 0.3.7\nlicence: MIT OR Apache-2.0, the Liverymenhir authors\n";
 
 /// What `--help` prints.
 pub const HELP: &str = "\
