@@ -2,13 +2,14 @@
 ghost use Rattle.std.specs.Prelude.{◌≡◌, ◌*◌, ◌/◌, ◌%◌, ◌<◌, ◌≤◌, ◌^◌, length};
 ghost use Rattle.volume_detect.specs.Words.{HasWords};
 
-use crate::Refusal;
 use crate::chips::chip_paths;
 use crate::words::chip_word;
+use crate::{BOARD_FAULT, Refusal};
 use chip_row::ChipRow;
 use detect_tool::{Memory as Lent, blank_place, detect_tool, found_need};
+use front_edge::blank_chip;
 use host_edge::{Access, FileChip, HeldFile, StdBoard};
-use nor_core::Nor;
+use nor_core::{Board, Failed, Nor};
 use nor_image::Image;
 use std::alloc::{AllocError, Global};
 use std::io::Write;
@@ -101,11 +102,11 @@ pub fn detect_board<W: Write + Drop>(
     Ok(StdBoard::new(row_of(rt, words)?, out))
 }
 
-/// Does the command over a board, in memory that is taken for it.
-pub fn detect_on<W: Write + Drop>(
+// Does the command over a board, in memory that is taken for all bytes of the chip.
+fn detect_whole<N: Board>(
     rt: &HostRuntime,
     words: &[String],
-    board: &mut StdBoard<W, FileChip>,
+    board: &mut N,
 ) -> Result<u8, Refusal> {
     let mut memory = Memory::new(rt.alloc(), board.size())?;
     let mut lent = Lent {
@@ -116,6 +117,38 @@ pub fn detect_on<W: Write + Drop>(
         found: &mut memory.found,
     };
     Ok(detect_tool(words, board, &mut lent))
+}
+
+// What the command says of a chip without a volume, and the status.
+fn detect_none(rt: &HostRuntime, words: &[String]) -> Result<(Vec<u8>, u8), Refusal> {
+    let Ok(chip) = blank_chip(rt.alloc(), 1, 1) else {
+        return Err(Refusal::Memory);
+    };
+    let mut chips = Vec::new(rt.alloc());
+    chips.push(chip).map_err(AllocError::from)?;
+    let Ok(row) = ChipRow::new(chips, 1, 1) else {
+        return Err(Refusal::Chips);
+    };
+    let mut board = StdBoard::new(row, Vec::new(rt.alloc()));
+    let status = detect_whole(rt, words, &mut board)?;
+    let (_, said) = board.give_back();
+    Ok((said, status))
+}
+
+/// Does the command over a board. Memory for all bytes of the chip is taken only where words of it tell that it may hold a volume.
+pub fn detect_on<W: Write + Drop>(
+    rt: &HostRuntime,
+    words: &[String],
+    board: &mut StdBoard<W, FileChip>,
+) -> Result<u8, Refusal> {
+    if may_hold(rt.alloc(), board)? {
+        return detect_whole(rt, words, board);
+    }
+    let (said, status) = detect_none(rt, words)?;
+    match board.say(&said) {
+        Ok(()) => Ok(status),
+        Err(Failed) => Ok(BOARD_FAULT),
+    }
 }
 
 // Says on standard error what the command says of the chip files of these names.
@@ -167,17 +200,22 @@ fn count_candidates(words: &[u8], most: u32) -> u32
     most
 }
 
-/// Whether a file of so many bytes may hold a volume, by the words of it that may be magics. It is read in small pieces. One that can't be read
-/// may, since that is told as it is read again.
+// Whether a chip may hold a volume, by the words of it that may be magics. It is read in small pieces. One that can't be read may, and one that is too
+// short for such words, since a fault is told as it is read again.
+fn may_hold<N: Nor>(alloc: Global, nor: &mut N) -> Result<bool, AllocError> {
+    let mut words = vec![in alloc; 0u8; words_need(nor.size()) as usize]?;
+    let read = read_words(nor, &mut words);
+    Ok(words.is_empty() || read.is_err() || next_candidate(&words, 0).is_some())
+}
+
+/// Whether a file of so many bytes may hold a volume. It is read in small pieces.
 pub fn may_hold_one(rt: &HostRuntime, held: &HeldFile, size: u32) -> Result<bool, Refusal> {
     let mut chips = Vec::new(rt.alloc());
     chips.push(held.chip(size, 1)).map_err(AllocError::from)?;
     let Ok(mut row) = ChipRow::new(chips, size, 1) else {
         return Ok(false);
     };
-    let mut words = vec![in rt.alloc(); 0u8; words_need(row.size()) as usize]?;
-    let read = read_words(&mut row, &mut words);
-    Ok(read.is_err() || next_candidate(&words, 0).is_some())
+    Ok(may_hold(rt.alloc(), &mut row)?)
 }
 
 /// The volumes that the bytes of a file may hold, in the order of their places; none where they are too many bytes for a chip.
