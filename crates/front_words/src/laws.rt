@@ -36,9 +36,9 @@ pub fn a_changed_volume_is_one()
     ensures { (c d : Candidate) → no_rival c d ≡ true → no_rival d c ≡ true → same_numbers c d ≡ true }
 {}
 
-/// A line that writes and doesn't give all numbers takes a volume that was found only where no other one leaves doubt of it, no id of it has two
-/// header pages, at most one of its blocks lacks its magic, and no file is damaged, or `--force` says that damaged ones may go. A check
-/// with `--repair` is there for damaged ones.
+/// A line that writes and doesn't give all numbers takes a volume that was found only where no other one leaves doubt of it, at most one of its
+/// blocks lacks its magic, no more of its ids have two header pages than a power cut leaves, and no file is damaged, or `--force` says that
+/// these may be taken. A check with `--repair` is there for damaged ones.
 pub fn a_written_volume_is_safe()
     ensures { (asked : Asked) (length : ℕ) (found : List Candidate) (v : Volume) → writes asked.word asked.repairs ≡ true → needs_found asked ≡ true →
         settled asked length found ≡ Ok v → MayBeWritten asked (agreeing asked found) v }

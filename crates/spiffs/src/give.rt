@@ -174,19 +174,21 @@ fn refuse_harmed<C: HostChip>(
     })
 }
 
-// Whether other numbers may be meant by a line that writes, which is said; it goes on behind `--force`.
+// Whether other numbers may be meant by a line that writes or tells what would be removed, which is said; it goes on behind `--force`.
 fn is_other(
     rt: &HostRuntime,
     meant: &Meant<'_>,
     guard: Guard,
     seen: Option<Seen>,
 ) -> Result<bool, Refusal> {
-    let removes = matches!(guard, Guard::Removes | Guard::Rehearses);
     let (Some(seen), Some(held), Some(given)) = (seen, &meant.held, geometry_of(&meant.top)) else {
         return Ok(false);
     };
     let at = meant.volume.at;
-    if !removes || meant.asked.is_forced || !wants_whole(&given, at, &seen, held.length()) {
+    if guard == Guard::Open
+        || meant.asked.is_forced
+        || !wants_whole(&given, at, &seen, held.length())
+    {
         return Ok(false);
     }
     let Ok(size) = u32::try_from(held.length()) else {
@@ -199,7 +201,7 @@ fn is_other(
     let holding = Holding { bytes: &bytes, at };
     let force = Force {
         lost: seen.damaged,
-        removes: true,
+        removes: guard != Guard::Foretells,
     };
     tell_others(rt, meant.image, &given, &seen, &holding, force)
 }

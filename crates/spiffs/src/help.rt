@@ -115,8 +115,8 @@ left out is found in the image. `pack` and `gen` take those of ESP-IDF.
   --dry-run         reads alone: changes are tried in memory
   --repair          of `fsck`: mends the image
   --svg             of `picture`: a drawing for a browser
-  --force           goes on where other numbers read more whole files, or where
-                    damaged files are removed for good
+  --force           goes on where other numbers read more whole files, where two
+                    volumes may stand end to end, or damaged files are removed
   --raw-names       of `unpack`: takes names with control characters, too
 
 N is a number below 2^32: digits, the same with K or M behind, or `0x` and
@@ -131,10 +131,11 @@ on a device the volume is changed in place. `pack`, `gen`, `make` and `fsck
 --repair` do the same.
 
 `put`, `rm`, `mv` and `fsck --repair`, where not all numbers are given, go on if
-one volume is meant: no other that is found reads files that it does not, at
-most one of its blocks lacks its magic, and it cannot be two end to end, unless
-`--size` is given. Else nothing is written, and standard error shows each volume
-by the options that choose it. What only reads takes the best one, and says so.
+one volume is meant: no other that is found may be meant as well, at most one of
+its blocks lacks its magic, and it cannot be two that stand end to end (there
+`--force`, or all numbers of one, go on). Else nothing is written, and standard
+error shows each volume by the options that choose it. What only reads takes the
+best one, and says so.
 
   PAGE    bytes of a page, a power of two from 128 to 4096
   BLOCK   bytes of a block, a multiple of PAGE
