@@ -118,6 +118,9 @@ fn whole_of<N: Nor>(g: &Geometry, nor: &mut N, lent: &mut ReaderLent<'_>) -> Res
     if g.magic != MagicKind::Plain {
         return Ok(0);
     }
+    let Ok(()) = accept_reader(g, nor, lent) else {
+        return Ok(0);
+    };
     let counts = count_files(g, nor, lent.work, lent.cache, lent.check)?;
     Ok(counts.whole)
 }
