@@ -19,6 +19,7 @@ pub mod OneName
 pub mod Stepped
 pub mod Sorts
 pub mod RowPassed
-pub mod Rows
+pub mod Pieces
+mod Rows
 pub mod RowSums
 pub mod Telling

@@ -275,6 +275,23 @@ impl<'b, N: Nor> View<'b, N> {
         }
     }
 
+    // Whether a page with this header is the first of its object and holds that name.
+    #[inline(always)]
+    #[tactic(auto, using(crate::proofs::Looking::looks_none))]
+    fn is_named_head(&mut self, page: u16, head: PageHeader, name: &[u8]) -> Result<bool, Failed>
+        requires { page < page_count self.old.geometry }
+        ensures cause { OnErr result (Rose (N.faults self.old.nor.now) (N.faults self.new.nor.now)) }
+        ensures looks { OnlyLooks self.old self.new }
+        ensures told { N.tells self.old.nor.now →
+            IfOk result (λ has. has ≡ ((head.span == 0) && is_name (the_name_of (page_of self.old.geometry (N.bytes self.old.nor.now) page)) name.now)) }
+        ensures work { self.new.work.now ≡ self.old.work.now }
+    {
+        if head.span != 0 {
+            return Ok(false);
+        }
+        self.has_name(page, name)
+    }
+
     // The id whose header page holds that name, and that page: the first from page `from` on and below page `to`.
     #[tactic(auto, using(crate::proofs::Looking::looks_then))]
     fn named_between(
@@ -296,7 +313,8 @@ impl<'b, N: Nor> View<'b, N> {
             if u32::from(page) >= to {
                 return Ok(None);
             }
-            if head.span == 0 && is_named(self.held(page), name) {
+            let has = self.is_named_head(page, head, name)?;
+            if has {
                 return Ok(Some((head.object(), page)));
             }
             at = u32::from(page) + 1;
@@ -323,6 +341,20 @@ impl<'b, N: Nor> View<'b, N> {
         })
     }
 
+    // The name that a page tells in the field of header pages, where it tells one. The bytes up to that field's end alone are read.
+    #[inline(never)]
+    fn peek_name(&mut self, page: u16) -> Result<Option<Name>, Failed>
+        requires { page < page_count self.old.geometry }
+        ensures cause { OnErr result (Rose (N.faults self.old.nor.now) (N.faults self.new.nor.now)) }
+        ensures looks { OnlyLooks self.old self.new }
+        ensures told { N.tells self.old.nor.now → IfOk result (λ name. name ≡ the_name_of (page_of self.old.geometry (N.bytes self.old.nor.now) page)) }
+        ensures work { self.new.work.now ≡ self.old.work.now }
+    {
+        let mut head = [0u8; 45];
+        self.read_in(page, 0, &mut head)?;
+        Ok(name_of(&head))
+    }
+
     /// The name that a page tells in the field of header pages, where it tells one.
     pub fn name_at(&mut self, page: u16) -> Result<Option<Name>, Failed>
         requires { page < page_count self.old.geometry }
@@ -331,19 +363,42 @@ impl<'b, N: Nor> View<'b, N> {
         ensures told { N.tells self.old.nor.now → IfOk result (λ name. name ≡ the_name_of (page_of self.old.geometry (N.bytes self.old.nor.now) page)) }
         ensures built { take self.old.geometry.page self.new.work.now ≡ take self.old.geometry.page self.old.work.now }
     {
+        if self.has_few() {
+            return self.peek_name(page);
+        }
         let f = self.bring(page)?;
         Ok(name_of(self.brought(f, page)))
     }
 
+    // Whether a page holds that name, in the field of header pages. The bytes up to that field's end alone are read.
+    #[inline(never)]
+    fn peeks_name(&mut self, page: u16, name: &[u8]) -> Result<bool, Failed>
+        requires { page < page_count self.old.geometry }
+        ensures cause { OnErr result (Rose (N.faults self.old.nor.now) (N.faults self.new.nor.now)) }
+        ensures looks { OnlyLooks self.old self.new }
+        ensures told { N.tells self.old.nor.now →
+            IfOk result (λ has. has ≡ is_name (the_name_of (page_of self.old.geometry (N.bytes self.old.nor.now) page)) name.now) }
+        ensures work { self.new.work.now ≡ self.old.work.now }
+    {
+        let mut head = [0u8; 45];
+        self.read_in(page, 0, &mut head)?;
+        Ok(is_named(&head, name))
+    }
+
     /// Whether a page holds that name, in the field of header pages.
+    #[inline(always)]
     pub fn has_name(&mut self, page: u16, name: &[u8]) -> Result<bool, Failed>
         requires { page < page_count self.old.geometry }
         ensures cause { OnErr result (Rose (N.faults self.old.nor.now) (N.faults self.new.nor.now)) }
         ensures looks { OnlyLooks self.old self.new }
         ensures told { N.tells self.old.nor.now →
             IfOk result (λ has. has ≡ is_name (the_name_of (page_of self.old.geometry (N.bytes self.old.nor.now) page)) name.now) }
+        ensures work { self.new.work.now ≡ self.old.work.now }
         ensures built { take self.old.geometry.page self.new.work.now ≡ take self.old.geometry.page self.old.work.now }
     {
+        if self.has_few() {
+            return self.peeks_name(page, name);
+        }
         let f = self.bring(page)?;
         Ok(is_named(self.brought(f, page), name))
     }

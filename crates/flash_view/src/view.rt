@@ -11,9 +11,12 @@ use crate::places::{block_of, entry_start, lookup_of, lookup_page, page_start};
 use geometry::Geometry;
 use nor_core::{Board, Failed, Mark, Nor, NorState};
 use page_cache::{
-    Cached, bring, brought, erase_through, held_page, hold_page, program_through, read_page,
+    Cached, bring, brought, erase_through, held_page, hold_page, peek_page, program_through, read_page,
 };
 use page_layout::{PageHeader, count_offset, header_of, magic_offset, read_count, read_word};
+
+// So many frames are many.
+const MANY: usize = 64;
 
 /// A volume's device, with its geometry and the bytes that were lent for its work.
 #[derive(Drop)]
@@ -127,6 +130,30 @@ impl<'b, N: Nor> View<'b, N> {
         &self.geometry
     }
 
+    // Whether frames are few: then of a page that isn't held those bytes alone are read that are looked at, and no other page loses
+    // its frame. (Where they are many a page that is looked at gets into one.)
+    #[inline(always)]
+    pub(crate) fn has_few(&self) -> bool {
+        self.cache.len() < MANY * self.geometry.page() as usize
+    }
+
+    // The two bytes of a page at its byte `start`, as a number with the lower byte first. They alone are read.
+    #[inline(never)]
+    fn peek_word(&mut self, page: u16, start: u32) -> Result<u16, Failed>
+        requires page { page < page_count self.old.geometry }
+        requires inside { start + 2 ≤ self.old.geometry.page }
+        ensures cause { OnErr result (Rose (N.faults self.old.nor.now) (N.faults self.new.nor.now)) }
+        ensures looks { OnlyLooks self.old self.new }
+        ensures once { N.device_reads self.new.nor.now ≤ N.device_reads self.old.nor.now + 1 }
+        ensures told { N.tells self.old.nor.now → IfOk result (λ word. word ≡ word_at (page_of self.old.geometry (N.bytes self.old.nor.now) page) start) }
+        ensures work { self.new.work.now ≡ self.old.work.now }
+        ensures bytes { N.tells self.old.nor.now → OnOk result (IsWordAt (N.bytes self.old.nor.now) (page * self.old.geometry.page + start)) }
+    {
+        let mut word = [0u8; 2];
+        self.read_in(page, start, &mut word)?;
+        Ok(read_word(&word, 0))
+    }
+
     // Slot `i` of the lookup pages of a block, counted from 0.
     fn slot(&mut self, block: u16, i: u32) -> Result<u16, Failed>
         requires block { block < self.old.geometry.blocks }
@@ -142,6 +169,9 @@ impl<'b, N: Nor> View<'b, N> {
         let k = lookup_of(&g, i);
         let page = lookup_page(&g, block, k);
         let at = (2 * i - k * g.page()) as usize;
+        if self.has_few() {
+            return self.peek_word(page, at as u32);
+        }
         let f = self.bring(page)?;
         Ok(read_word(self.brought(f, page), at))
     }
@@ -159,7 +189,7 @@ impl<'b, N: Nor> View<'b, N> {
         ensures work { self.new.work.now ≡ self.old.work.now }
     {
         let g = self.geometry;
-        if g.lookups() != 1 {
+        if g.lookups() != 1 || self.has_few() {
             let first = self.slot(block, i)?;
             let second = self.slot(block, j)?;
             return Ok((first, second));
@@ -240,7 +270,22 @@ impl<'b, N: Nor> View<'b, N> {
         Ok(read_count(self.slot(block, place)?))
     }
 
+    // The header of a page, which alone is read.
+    #[inline(never)]
+    fn peek_header(&mut self, page: u16) -> Result<PageHeader, Failed>
+        requires { page < page_count self.old.geometry }
+        ensures cause { OnErr result (Rose (N.faults self.old.nor.now) (N.faults self.new.nor.now)) }
+        ensures looks { OnlyLooks self.old self.new }
+        ensures told { N.tells self.old.nor.now → IfOk result (λ head. head ≡ header_at (page_of self.old.geometry (N.bytes self.old.nor.now) page)) }
+        ensures work { self.new.work.now ≡ self.old.work.now }
+    {
+        let mut head = [0u8; 5];
+        self.read_in(page, 0, &mut head)?;
+        Ok(header_of(&head))
+    }
+
     /// The header of a page.
+    #[inline(always)]
     pub fn header(&mut self, page: u16) -> Result<PageHeader, Failed>
         requires { page < page_count self.old.geometry }
         ensures cause { OnErr result (Rose (N.faults self.old.nor.now) (N.faults self.new.nor.now)) }
@@ -248,27 +293,29 @@ impl<'b, N: Nor> View<'b, N> {
         ensures told { N.tells self.old.nor.now → IfOk result (λ head. head ≡ header_at (page_of self.old.geometry (N.bytes self.old.nor.now) page)) }
         ensures work { self.new.work.now ≡ self.old.work.now }
     {
+        if self.has_few() {
+            return self.peek_header(page);
+        }
         let f = self.bring(page)?;
         Ok(header_of(self.brought(f, page)))
     }
 
-    /// Reads bytes of a page, from its byte `start` on.
+    /// Reads bytes of a page, from its byte `start` on, and no others, unless there is a frame for each page.
+    #[tactic(auto, using(crate::proofs::Rows::table_stays, crate::proofs::Behind::behind_reads))]
     pub fn read_in(&mut self, page: u16, start: u32, into: &mut [u8]) -> Result<(), Failed>
         requires page { page < page_count self.old.geometry }
         requires some { 0 < length into.old }
         requires inside { start + length into.old ≤ self.old.geometry.page }
         ensures cause { OnErr result (Rose (N.faults self.old.nor.now) (N.faults self.new.nor.now)) }
         ensures looks { OnlyLooks self.old self.new }
+        ensures once { N.device_reads self.new.nor.now ≤ N.device_reads self.old.nor.now + 1 }
         ensures told { N.tells self.old.nor.now →
             OnOk result (into.new ≡ slice_range (page_of self.old.geometry (N.bytes self.old.nor.now) page) start (start + length into.old)) }
         ensures work { self.new.work.now ≡ self.old.work.now }
         ensures small { (k : ℕ) → slice_index into.new k < 256 }
     {
-        let f = self.bring(page)?;
-        let from = start as usize;
-        let end = from + into.len();
-        into.copy_from_slice(&self.brought(f, page)[from..end]);
-        Ok(())
+        let g = self.geometry;
+        peek_page(&g, self.nor, self.cache, page, start as usize, into)
     }
 
     /// Reads the two bytes of a page at its byte `start`, as a number with the lower byte first.
@@ -280,6 +327,9 @@ impl<'b, N: Nor> View<'b, N> {
         ensures told { N.tells self.old.nor.now → IfOk result (λ word. word ≡ word_at (page_of self.old.geometry (N.bytes self.old.nor.now) page) start) }
         ensures work { self.new.work.now ≡ self.old.work.now }
     {
+        if self.has_few() {
+            return self.peek_word(page, start);
+        }
         let f = self.bring(page)?;
         Ok(read_word(self.brought(f, page), start as usize))
     }
@@ -395,6 +445,10 @@ impl<'b, N: Nor> View<'b, N> {
         ensures told { N.tells self.old.nor.now → IfOk result (λ blank. blank ≡ the_erased (page_of self.old.geometry (N.bytes self.old.nor.now) page)) }
         ensures built { take self.old.geometry.page self.new.work.now ≡ take self.old.geometry.page self.old.work.now }
     {
+        if self.has_few() {
+            self.fetch(page)?;
+            return Ok(is_erased(self.fetched()));
+        }
         let f = self.bring(page)?;
         Ok(is_erased(self.brought(f, page)))
     }

@@ -2,7 +2,6 @@ ghost use Rattle.std.specs.Prelude.{◌≡◌, ◌+◌, ◌*◌, ◌/◌, ◌<�
 ghost use Rattle.std.specs.Option.{option_map};
 ghost use Rattle.nor_core.specs.Count.{Rose};
 ghost use Rattle.page_layout.specs.Layout.{header_at};
-ghost use Rattle.page_cache.specs.Frames.{holds};
 ghost use Rattle.geometry.specs.Numbers.{lookups, entries};
 ghost use Rattle.image_model.specs.Places.{block_of as the_block_of, entry_of, has_magic};
 ghost use Rattle.image_model.specs.Live.{live_at};
@@ -15,7 +14,10 @@ use crate::View;
 use crate::counts::BlockCounts;
 use crate::places::{entry_page, lookup_of, lookup_page};
 use nor_core::{Failed, Nor, NorState};
-use page_layout::{INDEX_BIT, PageHeader, header_of, slot_between};
+use page_layout::{INDEX_BIT, PageHeader, slot_between};
+
+// So many entries of a block are few.
+const FEW: u32 = 32;
 
 // Whether a row tells that its block has no live page with an entry between two numbers: none of the kinds that have such entries.
 fn has_none(row: BlockCounts, low: u16, high: u16) -> bool
@@ -26,8 +28,36 @@ fn has_none(row: BlockCounts, low: u16, high: u16) -> bool
 
 impl<'b, N: Nor> View<'b, N> {
     // The first entry from place `at` on in lookup page `k` of a block alone, which has that place, whose number lies
-    // between two, and the number.
+    // between two, and the number. (Where frames and entries are few, the entries from there on alone are read.)
     fn slot_in(
+        &mut self,
+        block: u16,
+        k: u32,
+        at: u32,
+        low: u16,
+        high: u16,
+    ) -> Result<Option<(u32, u16)>, Failed>
+        requires block { block < self.old.geometry.blocks }
+        requires place { at < entries self.old.geometry }
+        requires lookup { k ≡ 2 * at / self.old.geometry.page }
+        requires few { k < lookups self.old.geometry }
+        ensures cause { OnErr result (Rose (N.faults self.old.nor.now) (N.faults self.new.nor.now)) }
+        ensures looks { OnlyLooks self.old self.new }
+        ensures once { N.device_reads self.new.nor.now ≤ N.device_reads self.old.nor.now + 1 }
+        ensures inside { IfOk result (λ found. IfSome found (λ f. (at ≤ f.0) × (f.0 < entries self.old.geometry))) }
+        ensures told { N.tells self.old.nor.now → IfOk result (λ found. FirstSlot self.old.geometry (N.bytes self.old.nor.now) block at
+            (min (entries self.old.geometry) ((k + 1) * (self.old.geometry.page / 2))) low high found) }
+        ensures work { self.new.work.now ≡ self.old.work.now }
+    {
+        if self.has_few() && self.geometry.entries() <= FEW {
+            self.slot_peeked(block, k, at, low, high)
+        } else {
+            self.slot_brought(block, k, at, low, high)
+        }
+    }
+
+    // The same, of the page in a frame.
+    fn slot_brought(
         &mut self,
         block: u16,
         k: u32,
@@ -57,6 +87,44 @@ impl<'b, N: Nor> View<'b, N> {
         let to = (end - start) as usize;
         match slot_between(self.brought(f, page), from, to, low, high) {
             Some((i, entry)) => Ok(Some((start + i as u32, entry))),
+            None => Ok(None),
+        }
+    }
+
+    // The same, of the entries alone. They are to be few.
+    #[inline(never)]
+    fn slot_peeked(
+        &mut self,
+        block: u16,
+        k: u32,
+        at: u32,
+        low: u16,
+        high: u16,
+    ) -> Result<Option<(u32, u16)>, Failed>
+        requires block { block < self.old.geometry.blocks }
+        requires place { at < entries self.old.geometry }
+        requires lookup { k ≡ 2 * at / self.old.geometry.page }
+        requires few { k < lookups self.old.geometry }
+        requires few_entries { entries self.old.geometry ≤ 32 }
+        ensures cause { OnErr result (Rose (N.faults self.old.nor.now) (N.faults self.new.nor.now)) }
+        ensures looks { OnlyLooks self.old self.new }
+        ensures once { N.device_reads self.new.nor.now ≤ N.device_reads self.old.nor.now + 1 }
+        ensures inside { IfOk result (λ found. IfSome found (λ f. (at ≤ f.0) × (f.0 < entries self.old.geometry))) }
+        ensures told { N.tells self.old.nor.now → IfOk result (λ found. FirstSlot self.old.geometry (N.bytes self.old.nor.now) block at
+            (min (entries self.old.geometry) ((k + 1) * (self.old.geometry.page / 2))) low high found) }
+        ensures work { self.new.work.now ≡ self.old.work.now }
+    {
+        let g = self.geometry;
+        let slots = g.page() / 2;
+        let start = k * slots;
+        let end = g.entries().min(start + slots);
+        let page = lookup_page(&g, block, k);
+        let count = (end - at) as usize;
+        let mut part = [0u8; 2 * FEW as usize];
+        let bytes = &mut part[..2 * count];
+        self.read_in(page, 2 * (at - start), bytes)?;
+        match slot_between(bytes, 0, count, low, high) {
+            Some((i, entry)) => Ok(Some((at + i as u32, entry))),
             None => Ok(None),
         }
     }
@@ -128,9 +196,8 @@ impl<'b, N: Nor> View<'b, N> {
         Ok(found)
     }
 
-    // The header of a page, if the page is live, by its block and its entry. The page is held then. (The magic comes first:
-    // where there is one frame alone, it takes the place of the page.)
-    #[tactic(auto, unfolding(image_model::specs::Live::live_at, image_model::specs::Live::is_live, image_model::specs::Places::is_entry_page), using(crate::proofs::Looking::looks_then, crate::proofs::Parts::finished_is, page_cache::proofs::Held::holds_by))]
+    // The header of a page, if the page is live, by its block and its entry.
+    #[tactic(auto, unfolding(image_model::specs::Live::live_at, image_model::specs::Live::is_live, image_model::specs::Places::is_entry_page), using(crate::proofs::Looking::looks_then, crate::proofs::Parts::finished_is))]
     pub(crate) fn live_by(
         &mut self,
         block: u16,
@@ -141,7 +208,6 @@ impl<'b, N: Nor> View<'b, N> {
         requires block { block ≡ the_block_of self.old.geometry page }
         ensures cause { OnErr result (Rose (N.faults self.old.nor.now) (N.faults self.new.nor.now)) }
         ensures looks { OnlyLooks self.old self.new }
-        ensures held { IfOk result (λ head. IfSome head (λ h. holds self.new.geometry self.new.cache.now page ≡ true)) }
         ensures told { N.tells self.old.nor.now → entry ≡ entry_of self.old.geometry (N.bytes self.old.nor.now) page →
             IfOk result (λ head. head ≡ option_map header_at (live_at self.old.geometry (N.bytes self.old.nor.now) page)) }
         ensures work { self.new.work.now ≡ self.old.work.now }
@@ -151,7 +217,7 @@ impl<'b, N: Nor> View<'b, N> {
     }
 
     // The same where it is known whether the block has its magic.
-    #[tactic(auto, unfolding(image_model::specs::Live::live_at, image_model::specs::Live::is_live, image_model::specs::Places::is_entry_page), using(crate::proofs::Looking::looks_then, crate::proofs::Looking::looks_none, crate::proofs::Parts::finished_is, page_cache::proofs::Held::holds_by))]
+    #[tactic(auto, unfolding(image_model::specs::Live::live_at, image_model::specs::Live::is_live, image_model::specs::Places::is_entry_page), using(crate::proofs::Looking::looks_then, crate::proofs::Looking::looks_none, crate::proofs::Parts::finished_is))]
     pub(crate) fn named_header(
         &mut self,
         has: bool,
@@ -161,7 +227,6 @@ impl<'b, N: Nor> View<'b, N> {
         requires page { IsEntryPage self.old.geometry page }
         ensures cause { OnErr result (Rose (N.faults self.old.nor.now) (N.faults self.new.nor.now)) }
         ensures looks { OnlyLooks self.old self.new }
-        ensures held { IfOk result (λ head. IfSome head (λ h. holds self.new.geometry self.new.cache.now page ≡ true)) }
         ensures told { N.tells self.old.nor.now → has ≡ has_magic self.old.geometry (N.bytes self.old.nor.now) (the_block_of self.old.geometry page) →
             entry ≡ entry_of self.old.geometry (N.bytes self.old.nor.now) page →
             IfOk result (λ head. head ≡ option_map header_at (live_at self.old.geometry (N.bytes self.old.nor.now) page)) }
@@ -170,8 +235,7 @@ impl<'b, N: Nor> View<'b, N> {
         if !has {
             return Ok(None);
         }
-        let f = self.bring(page)?;
-        let head = header_of(self.brought(f, page));
+        let head = self.header(page)?;
         if entry != head.id {
             return Ok(None);
         }
@@ -179,7 +243,6 @@ impl<'b, N: Nor> View<'b, N> {
     }
 
     /// The first live page from page `from` on whose entry lies between `low` and `high`, which count too, with its header.
-    /// The page is held.
     pub fn next_live(
         &mut self,
         from: u32,
@@ -189,7 +252,6 @@ impl<'b, N: Nor> View<'b, N> {
         ensures cause { OnErr result (Rose (N.faults self.old.nor.now) (N.faults self.new.nor.now)) }
         ensures looks { OnlyLooks self.old self.new }
         ensures inside { IfOk result (λ found. IfSome found (λ f. (from ≤ f.0) × IsEntryPage self.old.geometry f.0)) }
-        ensures held { IfOk result (λ found. IfSome found (λ f. holds self.new.geometry self.new.cache.now f.0 ≡ true)) }
         ensures told { N.tells self.old.nor.now → IfOk result (λ found. NextLive self.old.geometry (N.bytes self.old.nor.now) from low high found) }
         ensures work { self.new.work.now ≡ self.old.work.now }
     {

@@ -102,3 +102,7 @@ module _ {D : Type 0} {nor : NorOf D} (g : Geometry) where
   -- a read that got a page
   pub few_got : (old new : D) (a b : List ℕ) (page : ℕ) → page < page_count g → nor.device_reads new ≤ nor.device_reads old + 1 → (page_count g ≤ frame_count g a → KeepsHeld g a b) → holds g a page ≡ false → holds g b page ≡ true → FewReads nor g old a new b
   few_got old new a b page inside reads keeps was is = record { few = λ many calm. omega (arith, reads, many_one_more (holds g a) (holds g b) (page_count g) page (keeps many) inside was is) }
+
+  -- with fewer frames than pages nothing is said
+  pub few_frames : (old new : D) (a b : List ℕ) → frame_count g a < page_count g → FewReads nor g old a new b
+  few_frames old new a b short = record { few = λ many calm. absurd (omega (arith, short, many)) }

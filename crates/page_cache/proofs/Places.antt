@@ -128,3 +128,20 @@ unfolding frame_count
 frame_there g frames page small long =
     let some : page + 1 ≤ length frames / frame_size g = (le-div_iff_mul-le {k = frame_size g} {x = page + 1} {y = length frames} (omega arith)).1 long in
     omega (arith, some, small, few_pages g)
+
+-- with so many bytes there is a frame for each page
+pub all_frames : (g : Geometry) (frames : List ℕ) → frame_size g * page_count g ≤ length frames → page_count g ≤ frame_count g frames
+unfolding frame_count
+all_frames g frames long =
+    let some : page_count g ≤ length frames / frame_size g = (le-div_iff_mul-le {k = frame_size g} {x = page_count g} {y = length frames} (omega arith)).1 (omega (arith, long)) in
+    omega (arith, some, few_pages g)
+
+-- and with fewer there is none for some page
+pub no_frame : (g : Geometry) (frames : List ℕ) → length frames < frame_size g * page_count g → frame_count g frames < page_count g
+unfolding frame_count
+no_frame g frames short = ⊎_elim (λ below. below)
+    (λ (all : page_count g ≤ frame_count g frames).
+    let most : page_count g ≤ length frames / frame_size g = omega (arith, all) in
+    let long : page_count g * frame_size g ≤ length frames = (le-div_iff_mul-le {k = frame_size g} {x = page_count g} {y = length frames} (omega arith)).0 most in
+    absurd (omega (arith, long, short)))
+    (lt_or_le (frame_count g frames) (page_count g))

@@ -4,7 +4,7 @@
 //! the home tells on, before another one. There stand the pages with this home that came while it was in use and others were
 //! free. So neither a page that is held nor one that isn't costs a walk over all frames, and nor does a program. Where no frame
 //! is free this is known without a walk too, by a number in the first frame.
-ghost use Rattle.std.specs.Prelude.{◌≡◌, ℕ, ◌+◌, ◌*◌, ◌%◌, ◌<◌, ◌≤◌, ◌≢◌, ◌⊎◌, ◌^◌, length, true, IfSome, None};
+ghost use Rattle.std.specs.Prelude.{◌≡◌, ℕ, ◌+◌, ◌*◌, ◌%◌, ◌<◌, ◌≤◌, ◌≢◌, ◌⊎◌, ◌^◌, length, true, false, IfSome, None};
 ghost use Rattle.geometry.specs.Numbers.{page_count, cache_need};
 ghost use Rattle.page_cache.specs.Frames.{frame_size, frame_count as the_frame_count, frame_at, number_of as the_number_of, page_in, holds, home_of, AllInUse};
 ghost use Rattle.page_cache.specs.Frames.{IsFindable, IsNear, Widened, Bounded, AreSameCopies, span_of, Follows, IsReady, IsFree, EachFrame, EachPage, OnePage};
@@ -25,6 +25,15 @@ pub(crate) fn frame_count(g: &Geometry, frames: &[u8]) -> usize
     ensures { result ≡ the_frame_count g.now frames.now }
 {
     (frames.len() / frame_len(g)).min(65535)
+}
+
+// Whether there is a frame for each page.
+#[tactic(auto, using(crate::proofs::Places::all_frames, crate::proofs::Places::no_frame))]
+pub(crate) fn is_whole(g: &Geometry, frames: &[u8]) -> bool
+    ensures all { result ≡ true → page_count g.now ≤ the_frame_count g.now frames.now }
+    ensures few { result ≡ false → the_frame_count g.now frames.now < page_count g.now }
+{
+    frame_len(g) * g.pages() as usize <= frames.len()
 }
 
 // The first byte of a frame.

@@ -9,5 +9,6 @@ mod through;
 
 pub use cached::Cached;
 pub use through::{
-    bring, brought, erase_through, held_page, hold_page, program_through, read_page, read_through,
+    bring, brought, erase_through, held_page, hold_page, peek_page, program_through, read_page,
+    read_through,
 };

@@ -13,7 +13,7 @@ ghost use Rattle.page_cache.specs.Frames.{InOnePage};
 ghost use Rattle.page_cache.specs.Kept.{IsKept, FewReads, Stays};
 
 use crate::frame::{Event, HEAD, fill};
-use crate::frames::{bound_all, find, follow_all, frame, frame_len, holder, pick, start_of};
+use crate::frames::{bound_all, find, follow_all, frame, frame_len, holder, is_whole, pick, start_of};
 use geometry::Geometry;
 use nor_core::{Failed, Mark, Nor, NorState};
 
@@ -188,7 +188,47 @@ fn read_within<N: Nor>(
     Ok(())
 }
 
-/// Reads a page of the volume, from its copy, and the page is held afterwards. It fails where the device fails.
+/// Reads bytes of a page of the volume, from its byte `start` on: from its copy where it is held, else from the device, those bytes
+/// alone, and no frame changes. (Where there is a frame for each page, the page is held afterwards, and so it is read once.) It fails
+/// where the device fails.
+pub fn peek_page<N: Nor>(
+    g: &Geometry,
+    nor: &mut N,
+    frames: &mut [u8],
+    page: u16,
+    start: usize,
+    into: &mut [u8],
+) -> Result<(), Failed>
+    requires need { cache_need g.now ≤ length frames.old }
+    requires page { page < page_count g.now }
+    requires some { 0 < length into.old }
+    requires inside { start + length into.old ≤ g.now.page }
+    requires volume { g.now.blocks * g.now.block ≤ N.size nor.old }
+    requires kept { IsKept N.NorState g.now nor.old frames.old }
+    ensures read { N.tells nor.old →
+        OnOk result (into.new ≡ slice_range (N.bytes nor.old) (page * g.now.page + start) (page * g.now.page + start + length into.old)) }
+    ensures once { N.device_reads nor.new ≤ N.device_reads nor.old + 1 }
+    ensures cause { OnErr result (Rose (N.faults nor.old) (N.faults nor.new)) }
+    ensures only_reads { OnlyReads N.NorState nor.old nor.new }
+    ensures hit { holds g.now frames.old page ≡ true → IsOk result × (nor.new ≡ nor.old) × (frames.new ≡ frames.old) }
+    ensures spares { the_frame_count g.now frames.old < page_count g.now → frames.new ≡ frames.old }
+    ensures stays { Stays g.now frames.old frames.new }
+    ensures few { FewReads N.NorState g.now nor.old frames.old nor.new frames.new }
+    ensures kept { IsKept N.NorState g.now nor.new frames.new }
+{
+    if is_whole(g, frames) {
+        return read_within(g, nor, frames, page, start, into);
+    }
+    if let Some(f) = find(g, frames, page) {
+        let first = HEAD + start;
+        let end = first + into.len();
+        into.copy_from_slice(&frame(g, frames, f)[first..end]);
+        return Ok(());
+    }
+    nor.read(u32::from(page) * g.page() + start as u32, into)
+}
+
+/// Reads a page of the volume so.
 pub fn read_page<N: Nor>(
     g: &Geometry,
     nor: &mut N,
@@ -206,12 +246,12 @@ pub fn read_page<N: Nor>(
     ensures cause { OnErr result (Rose (N.faults nor.old) (N.faults nor.new)) }
     ensures only_reads { OnlyReads N.NorState nor.old nor.new }
     ensures hit { holds g.now frames.old page ≡ true → IsOk result × (nor.new ≡ nor.old) × (frames.new ≡ frames.old) }
-    ensures held { OnOk result (holds g.now frames.new page ≡ true) }
+    ensures spares { the_frame_count g.now frames.old < page_count g.now → frames.new ≡ frames.old }
     ensures stays { Stays g.now frames.old frames.new }
     ensures few { FewReads N.NorState g.now nor.old frames.old nor.new frames.new }
     ensures kept { IsKept N.NorState g.now nor.new frames.new }
 {
-    read_within(g, nor, frames, page, 0, into)
+    peek_page(g, nor, frames, page, 0, into)
 }
 
 /// Reads bytes as `Nor::read` does. Bytes that lie in one page of the volume come from its copy, and the page is held afterwards;

@@ -5,4 +5,4 @@ pub returns-clause-read : goal.returns-clause-read
 returns-clause-read g c tells =
     let start = c.args.page * c.args.g.now.page in
     let none : start + 0 ≡ start = omega arith in
-    rw (none, c.requires.whole) at (c.read_within.ensures.read tells)
+    rw (none, c.requires.whole) at (c.peek_page.ensures.read tells)

@@ -6,17 +6,15 @@ use Rattle.flash_view.proofs.view.View.named_header.Goals as goal
 
 pub returns-then-is_finished-clause-told : goal.returns-then-is_finished-clause-told
 returns-then-is_finished-clause-told g c = λ tells has entry.
-    let h = c.in_ok-f.ensures.looks in
     let view = c.args.self.now in
     let image = g.N.NorState.bytes view.nor.now in
     let magic : has_magic view.geometry image (block_of view.geometry c.args.page) ≡ true = sym has ∙ c.if-not-has.false in
-    let head : c.header_of-head.result ≡ header_at (page_of view.geometry image c.args.page) = rw (c.header_of-head.ensures, c.brought.ensures.bytes (h.reads.told tells), h.same.geometry, h.reads.bytes) in
-    live_by view.geometry image c.args.page c.args.entry c.header_of-head.result c.requires.page magic entry head c.if-entry-head.false (sym c.if-is_finished.ensures)
+    let head : c.in_ok-head.head ≡ header_at (page_of view.geometry image c.args.page) = c.in_ok-head.ensures.told tells in
+    live_by view.geometry image c.args.page c.args.entry c.in_ok-head.head c.requires.page magic entry head c.if-entry-head.false (sym c.if-is_finished.ensures)
 
 pub returns-else-is_finished-clause-told : goal.returns-else-is_finished-clause-told
 returns-else-is_finished-clause-told g c = λ tells has entry.
-    let h = c.in_ok-f.ensures.looks in
     let view = c.args.self.now in
     let image = g.N.NorState.bytes view.nor.now in
-    let head : c.header_of-head.result ≡ header_at (page_of view.geometry image c.args.page) = rw (c.header_of-head.ensures, c.brought.ensures.bytes (h.reads.told tells), h.same.geometry, h.reads.bytes) in
-    dead_by view.geometry image c.args.page c.header_of-head.result head (sym c.if-is_finished.ensures)
+    let head : c.in_ok-head.head ≡ header_at (page_of view.geometry image c.args.page) = c.in_ok-head.ensures.told tells in
+    dead_by view.geometry image c.args.page c.in_ok-head.head head (sym c.if-is_finished.ensures)

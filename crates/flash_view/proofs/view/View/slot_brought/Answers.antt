@@ -4,7 +4,7 @@ use Rattle.geometry.specs.Numbers.{entries, per_block}
 use Rattle.image_model.specs.Places.{page_of}
 use Rattle.flash_view.proofs.SlotHeld.{in_lookup}
 use Rattle.flash_view.proofs.Walking.{found_in, none_in}
-use Rattle.flash_view.proofs.view.View.slot_in.Goals as goal
+use Rattle.flash_view.proofs.view.View.slot_brought.Goals as goal
 
 pub overflow_mul-start : goal.overflow_mul-start
 overflow_mul-start g c =
