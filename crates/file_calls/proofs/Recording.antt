@@ -1,5 +1,5 @@
 -- The records of files, and how full a volume is.
-use Rattle.std.proofs.Common.{◌≡◌, ℕ, zero, suc, ◌+◌, ◌-◌, ◌*◌, List, Bool, true, false, refl, sym, ◌∙◌, ap}
+use Rattle.std.proofs.Common.{◌≡◌, ℕ, zero, suc, ◌+◌, ◌-◌, ◌*◌, List, Bool, true, false, refl, sym, ◌∙◌, ap, arith}
 use Rattle.std.specs.Prelude.{Option, Some, None, find}
 use Rattle.std.specs.List.{range_with_len}
 use Rattle.std.specs.Option.{option_map}
@@ -14,7 +14,7 @@ use Rattle.image_model.specs.Files.{index_page, is_index}
 use Rattle.image_laws.proofs.Frames.{live_parts}
 use Rattle.image_model.specs.Tables.{table_of}
 use Rattle.image_model.specs.Tidy.{IsTidy}
-use Rattle.flash_view.specs.Found.{first_named, NextId}
+use Rattle.flash_view.specs.Found.{first_named, NextId, has_header}
 use Rattle.image_laws.proofs.Tally.{tidy-counts}
 use Rattle.header_laws.specs.Heads.{Tells}
 use Rattle.header_laws.proofs.HeadCount.{file-count}
@@ -69,6 +69,11 @@ module _ (g : Geometry) (image : List ℕ) (whole : IsImage g image) (tidy : IsT
   unfolding index_page
   told_at id p at = told_by id p (page_of g image p) at (own_live id p (live_at g image p) refl (found_passes (λ (q : ℕ). is_index (own (live_at g image) id q) 0) 0 (page_count g) p at))
 
+  -- an id that has a header page, which was found
+  pub has_at : (id p : ℕ) → index_page g (own (live_at g image) id) 0 ≡ Some p → has_header g image id ≡ true
+  unfolding has_header
+  has_at id p at = rw at refl
+
   -- the record of a name's file, by the id that its header page tells
   named_by : (name : List ℕ) (o : Option File) → file_named name (table_of g image) ≡ o → (id : ℕ) → option_map (λ f. f.id) o ≡ Some id → option_map stat_of (file_of id (table_of g image)) ≡ option_map stat_of o
   named_by name None at id e = absurd (cc)
@@ -90,6 +95,10 @@ module _ (g : Geometry) (image : List ℕ) (whole : IsImage g image) (tidy : IsT
 
   pub of_next : (after id : ℕ) → NextId g image after (Some id) → option_map stat_of (file_of id (table_of g image)) ≡ option_map stat_of (file_above after (table_of g image))
   of_next after id next = above_by after (file_above after (table_of g image)) refl id (next-is g image tidy.undamaged after (Some id) next)
+
+  -- an id that has a header page and follows that one is the next
+  pub of_after : (after : ℕ) → has_header g image (after + 1) ≡ true → option_map stat_of (file_of (after + 1) (table_of g image)) ≡ option_map stat_of (file_above after (table_of g image))
+  of_after after has = of_next after (after + 1) (record { above = omega arith; has = has; least = λ other more is. omega (arith, more) })
 
   pub no_next : (after : ℕ) → NextId g image after None → None ≡ option_map stat_of (file_above after (table_of g image))
   no_next after next = none_by (file_above after (table_of g image)) (sym (next-is g image tidy.undamaged after None next))

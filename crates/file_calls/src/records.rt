@@ -1,4 +1,4 @@
-ghost use Rattle.std.specs.Prelude.{◌≡◌, ◌≢◌, ◌<◌, ◌≤◌, ℕ, length, IsErrOf, IfOk, OnErr, Some, None};
+ghost use Rattle.std.specs.Prelude.{◌≡◌, ◌≢◌, ◌<◌, ◌≤◌, ◌⊎◌, ℕ, length, IsErrOf, IfOk, OnErr, Some, None};
 ghost use Rattle.std.specs.Option.{option_map};
 ghost use Rattle.nor_core.specs.Count.{Rose};
 ghost use Rattle.flash_view.specs.Same.{OnlyLooks};
@@ -64,9 +64,28 @@ pub(crate) fn stat_named<N: Nor>(v: &mut View<'_, N>, name: &[u8]) -> Result<Opt
     }
 }
 
-/// The record of the least id above one.
+// The record of the number behind an id, if the page of its hint is its header page.
 #[tactic(auto, using(flash_view::proofs::Looking::looks_then))]
-pub(crate) fn stat_above<N: Nor>(v: &mut View<'_, N>, after: u16) -> Result<Option<Stat>, Failed>
+fn stat_behind<N: Nor>(v: &mut View<'_, N>, after: u16) -> Result<Option<Stat>, Failed>
+    ensures cause { OnErr result (Rose (N.faults v.old.nor.now) (N.faults v.new.nor.now)) }
+    ensures looks { OnlyLooks v.old v.new }
+    ensures told { N.tells v.old.nor.now → IsTidy v.old.geometry (N.bytes v.old.nor.now) →
+        IfOk result (λ found. (found ≡ None) ⊎ (found ≡ option_map the_stat (file_above after (table_of v.old.geometry (N.bytes v.old.nor.now))))) }
+{
+    if after == u16::MAX {
+        return Ok(None);
+    }
+    let id = after + 1;
+    let Some(page) = v.hinted_header(id)? else {
+        return Ok(None);
+    };
+    v.fetch(page)?;
+    Ok(stat_in(&v.geometry, v.fetched(), id))
+}
+
+// The record of the least id above one, of all pages.
+#[tactic(auto, using(flash_view::proofs::Looking::looks_then))]
+fn search_above<N: Nor>(v: &mut View<'_, N>, after: u16) -> Result<Option<Stat>, Failed>
     ensures cause { OnErr result (Rose (N.faults v.old.nor.now) (N.faults v.new.nor.now)) }
     ensures looks { OnlyLooks v.old v.new }
     ensures told { N.tells v.old.nor.now → IsTidy v.old.geometry (N.bytes v.old.nor.now) →
@@ -76,6 +95,20 @@ pub(crate) fn stat_above<N: Nor>(v: &mut View<'_, N>, after: u16) -> Result<Opti
         Some(id) => stat_of_id(v, id),
         None => Ok(None),
     }
+}
+
+/// The record of the least id above one. That of the next number comes first, by its hint: in a walk over all files it mostly is the one.
+#[tactic(auto, using(flash_view::proofs::Looking::looks_then))]
+pub(crate) fn stat_above<N: Nor>(v: &mut View<'_, N>, after: u16) -> Result<Option<Stat>, Failed>
+    ensures cause { OnErr result (Rose (N.faults v.old.nor.now) (N.faults v.new.nor.now)) }
+    ensures looks { OnlyLooks v.old v.new }
+    ensures told { N.tells v.old.nor.now → IsTidy v.old.geometry (N.bytes v.old.nor.now) →
+        IfOk result (λ found. found ≡ option_map the_stat (file_above after (table_of v.old.geometry (N.bytes v.old.nor.now)))) }
+{
+    if let Some(stat) = stat_behind(v, after)? {
+        return Ok(Some(stat));
+    }
+    search_above(v, after)
 }
 
 /// How full the volume is.

@@ -60,7 +60,7 @@ pub word_parted : (g : Geometry) (image bytes : List ℕ) (page start : ℕ) →
 unfolding page_of
 word_parted g image bytes page start is small fits =
     let byte : (i : ℕ) → i < 2 → slice_index bytes i ≡ slice_index image (page * g.page + (start + i)) = λ i low.
-        ap (λ (l : List ℕ). slice_index l i) is ∙ part_byte start (start + 2) i (slice_range image (page * g.page) (page * g.page + g.page)) (omega (arith, low)) ∙ part_byte (page * g.page) (page * g.page + g.page) (start + i) image (omega (arith, low, fits)) in
+    ap (λ (l : List ℕ). slice_index l i) is ∙ part_byte start (start + 2) i (slice_range image (page * g.page) (page * g.page + g.page)) (omega (arith, low)) ∙ part_byte (page * g.page) (page * g.page + g.page) (start + i) image (omega (arith, low, fits)) in
     let here : page * g.page + (start + 0) ≡ page * g.page + start = omega arith in
     let next : page * g.page + (start + 1) ≡ page * g.page + start + 1 = omega arith in
     record {

@@ -155,6 +155,24 @@ impl<'b, N: Nor> View<'b, N> {
         Ok(if has { page } else { self.behind_last() })
     }
 
+    /// The header page of an id, if the page of its hint is it: in a tidy image the one that `find_index` gives. No other page is looked at.
+    #[tactic(auto, using(crate::proofs::Looking::looks_then))]
+    pub fn hinted_header(&mut self, id: u16) -> Result<Option<u16>, Failed>
+        ensures cause { OnErr result (Rose (N.faults self.old.nor.now) (N.faults self.new.nor.now)) }
+        ensures looks { OnlyLooks self.old self.new }
+        ensures inside { IfOk result (λ page. IfSome page (λ p. p < page_count self.old.geometry)) }
+        ensures told { N.tells self.old.nor.now → IsTidy self.old.geometry (N.bytes self.old.nor.now) →
+            IfOk result (λ page. IfSome page (λ p. Some p ≡ index_page self.old.geometry (own (live_at self.old.geometry (N.bytes self.old.nor.now)) id) 0)) }
+        ensures kept { take (2 * self.old.geometry.page) self.new.work.now ≡ take (2 * self.old.geometry.page) self.old.work.now }
+    {
+        let hinted = self.hint(id);
+        if !self.is_header_of(hinted, id)? {
+            return Ok(None);
+        }
+        self.note_hint(0, hinted);
+        Ok(Some(hinted))
+    }
+
     /// The header page of an id, in a tidy image the one that `find_index` gives. The page of its hint comes first, else those behind the
     /// header page that was found last. What is found is noted.
     #[tactic(auto, using(crate::proofs::Looking::looks_then))]
@@ -166,10 +184,8 @@ impl<'b, N: Nor> View<'b, N> {
             IfOk result (λ page. page ≡ index_page self.old.geometry (own (live_at self.old.geometry (N.bytes self.old.nor.now)) id) 0) }
         ensures kept { take (2 * self.old.geometry.page) self.new.work.now ≡ take (2 * self.old.geometry.page) self.old.work.now }
     {
-        let hinted = self.hint(id);
-        if self.is_header_of(hinted, id)? {
-            self.note_hint(0, hinted);
-            return Ok(Some(hinted));
+        if let Some(page) = self.hinted_header(id)? {
+            return Ok(Some(page));
         }
         let near = self.behind_last();
         let Some(page) = self.find_near(id, 0, near)? else {
@@ -178,6 +194,20 @@ impl<'b, N: Nor> View<'b, N> {
         self.note_hint(id, page);
         self.note_hint(0, page);
         Ok(Some(page))
+    }
+
+    // Notes the header page of an id that comes soon behind another one: of as many as have places of their own.
+    #[tactic(auto, using(crate::proofs::Looking::looks_none))]
+    pub(crate) fn note_behind(&mut self, after: u16, found: Option<u16>, page: u16)
+        ensures looks { OnlyLooks self.old self.new }
+        ensures kept { take (2 * self.old.geometry.page) self.new.work.now ≡ take (2 * self.old.geometry.page) self.old.work.now }
+    {
+        let Some(id) = found else {
+            return;
+        };
+        if id > after && u32::from(id - after) < self.geometry.page() / 2 {
+            self.note_hint(id, page);
+        }
     }
 
     /// The id whose header page holds that name, in a tidy image the one that `find_header_name` gives. The page of the name's hint comes

@@ -1,4 +1,4 @@
-ghost use Rattle.std.specs.Prelude.{◌≡◌, ◌<◌, ◌≤◌, length, ◌%◌, ◌==◌, ◌&&◌, not, nat_lt, OnErr, IfOk, IfSome, Some, None, if◌then◌else◌, take};
+ghost use Rattle.std.specs.Prelude.{◌*◌, ◌≡◌, ◌<◌, ◌≤◌, length, ◌%◌, ◌==◌, ◌&&◌, not, nat_lt, OnErr, IfOk, IfSome, Some, None, if◌then◌else◌, take};
 ghost use Rattle.std.specs.Option.{option_map};
 ghost use Rattle.geometry.specs.Numbers.{page_count};
 ghost use Rattle.nor_core.specs.Count.{Rose};
@@ -223,18 +223,21 @@ impl<'b, N: Nor> View<'b, N> {
         Ok(None)
     }
 
-    /// The least id above `after` that has a header page.
+    /// The least id above `after` that has a header page. It looks at every index page, and the header pages of ids soon behind that one are
+    /// noted, so that the next ids are found by their hints.
     #[tactic(auto, using(crate::proofs::Looking::looks_then))]
     pub fn next_id(&mut self, after: u16) -> Result<Option<u16>, Failed>
         ensures cause { OnErr result (Rose (N.faults self.old.nor.now) (N.faults self.new.nor.now)) }
         ensures looks { OnlyLooks self.old self.new }
         ensures told { N.tells self.old.nor.now → IfOk result (λ id. NextId self.old.geometry (N.bytes self.old.nor.now) after id) }
-        ensures work { self.new.work.now ≡ self.old.work.now }
+        ensures kept { take (2 * self.old.geometry.page) self.new.work.now ≡ take (2 * self.old.geometry.page) self.old.work.now }
     {
         let mut least = None;
         let mut at = 0;
         'pages: while let Some((page, head)) = self.next_live(at, INDEX_BIT, FREE - 1)? {
-            least = lower(after, least, headed_id(head));
+            let found = headed_id(head);
+            least = lower(after, least, found);
+            self.note_behind(after, found, page);
             at = u32::from(page) + 1;
         }
         Ok(least)

@@ -11,7 +11,8 @@ use crate::places::{block_of, entry_start, lookup_of, lookup_page, page_start};
 use geometry::Geometry;
 use nor_core::{Board, Failed, Mark, Nor, NorState};
 use page_cache::{
-    Cached, bring, brought, erase_through, held_page, hold_page, peek_page, program_through, read_page,
+    Cached, bring, brought, erase_through, held_page, hold_page, peek_page, program_through,
+    read_page,
 };
 use page_layout::{PageHeader, count_offset, header_of, magic_offset, read_count, read_word};
 

@@ -13,7 +13,9 @@ ghost use Rattle.page_cache.specs.Frames.{InOnePage};
 ghost use Rattle.page_cache.specs.Kept.{IsKept, FewReads, Stays};
 
 use crate::frame::{Event, HEAD, fill};
-use crate::frames::{bound_all, find, follow_all, frame, frame_len, holder, is_whole, pick, start_of};
+use crate::frames::{
+    bound_all, find, follow_all, frame, frame_len, holder, is_whole, pick, start_of,
+};
 use geometry::Geometry;
 use nor_core::{Failed, Mark, Nor, NorState};
 
@@ -221,8 +223,8 @@ pub fn peek_page<N: Nor>(
     }
     if let Some(f) = find(g, frames, page) {
         let first = HEAD + start;
-        let end = first + into.len();
-        into.copy_from_slice(&frame(g, frames, f)[first..end]);
+        let behind = first + into.len();
+        into.copy_from_slice(&frame(g, frames, f)[first..behind]);
         return Ok(());
     }
     nor.read(u32::from(page) * g.page() + start as u32, into)

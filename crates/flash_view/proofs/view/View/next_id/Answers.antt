@@ -12,7 +12,7 @@ use Rattle.flash_view.proofs.view.View.next_id.Goals as goal
 pub pages-init : goal.pages-init
 pages-init g c = record {
   looks = looks_none c.args.self.now;
-  work = refl;
+  kept = refl;
   most = omega arith;
   told = λ tells. record { none = λ q id low is. absurd (omega arith) };
 }
@@ -28,8 +28,8 @@ pages-preserved g c =
     let found = c.in_ok-page.ensures in
     let inside = rw (c.in-Some.is, was.looks.same.geometry) at found.inside in
     record {
-      looks = looks_then was.looks found.looks;
-      work = found.work ∙ was.work;
+      looks = looks_then (looks_then was.looks found.looks) c.note_behind.ensures.looks;
+      kept = rw (found.looks.same.geometry, was.looks.same.geometry, found.work) at (c.note_behind.ensures.kept) ∙ was.kept;
       most = omega (arith, inside.1.below, c.from-at.ensures);
       told = λ tells.
           let view = c.args.self.now in
@@ -37,7 +37,7 @@ pages-preserved g c =
           let next : IsNextLive view.geometry image c.pages.at 0x8000 0xFFFE c.in-Some.page c.in-Some.head = rw (was.looks.same.geometry, was.looks.reads.bytes, c.in-Some.is) at (found.told (was.looks.reads.told tells)) in
           let to = least_skip (λ q. headed (live_at view.geometry image q)) c.args.after c.pages.at c.in-Some.page c.pages.least inside.0 (was.told tells) (λ q after before. passed_head view.geometry image q (next.passed q after before)) in
           let one = least_more (λ q. headed (live_at view.geometry image q)) c.args.after c.in-Some.page c.pages.least _ to (sym (found_head view.geometry image c.pages.at c.in-Some.page c.in-Some.head next)) in
-          rw (c.lower-least.ensures, c.headed_id.ensures, c.from-at.ensures) one;
+          rw (c.lower-least.ensures, c.headed_id-found.ensures, c.from-at.ensures) one;
     }
 
 pub returns-clause-told : goal.returns-clause-told

@@ -1,5 +1,6 @@
 -- The least id of the pages below `at`.
-use Rattle.std.proofs.Common.{◌≡◌, ◌-◌, ◌≤◌, ℕ}
+use Rattle.std.proofs.Common.{◌≡◌, ◌-◌, ◌*◌, ◌≤◌, ℕ}
+use Rattle.std.specs.Prelude.{take}
 use Rattle.geometry.specs.Numbers.{page_count}
 use Rattle.image_model.specs.Live.{live_at}
 use Rattle.flash_view.specs.Found.{headed}
@@ -10,7 +11,7 @@ use Rattle.flash_view.proofs.view.View.next_id.Given as goal
 abbrev pub invariant-pages : goal.invariant-pages
 invariant-pages g l = record {
   looks : OnlyLooks l.fn.self l.self;
-  work : l.self.work.now ≡ l.fn.self.work.now;
+  kept : take (2 * l.fn.self.geometry.page) l.self.work.now ≡ take (2 * l.fn.self.geometry.page) l.fn.self.work.now;
   most : l.at ≤ page_count l.fn.self.geometry;
   told :
       (let image = g.N.NorState.bytes l.fn.self.nor.now in

@@ -3,7 +3,7 @@ use Rattle.std.proofs.lemmas.Result.{IfOk-weaker}
 use Rattle.image_model.specs.Places.{IsImage}
 use Rattle.flash_view.specs.Found.{NextId}
 use Rattle.file_calls.proofs.Recording.{of_next, no_next}
-use Rattle.file_calls.proofs.records.stat_above.Goals as goal
+use Rattle.file_calls.proofs.records.search_above.Goals as goal
 
 pub returns-in-Some-clause-told : goal.returns-in-Some-clause-told
 returns-in-Some-clause-told g c = λ tells tidy.
