@@ -124,15 +124,14 @@ module _ (g : Geometry) (a : List ℕ) (id : ℕ) (f new : File) (undamaged : da
       omega (arith, w, index, pages)
 
   -- and for the pages of an append to one that is to grow
-  pub room_behind : length f.bytes < length new.bytes → HasRoomFor g a (index_needed g (length f.bytes)) 1
-  room_behind less =
+  pub room_behind : length f.bytes < length new.bytes → (n : ℕ) → data_pages g (length f.bytes) + n ≤ data_pages g (length new.bytes) + 1 → HasRoomFor g a (index_needed g (length f.bytes)) n
+  room_behind less n few =
       let w = with_room g (put_file new (table_of g a)) room in
       let i = needed_grows g (length f.bytes) (length new.bytes) less in
-      let d = data_mono g (length f.bytes) (length new.bytes) (omega (arith, less)) in
       let i_new = resized_index g a id f new undamaged there same in
       let d_new = resized_data g a id f new undamaged there same in
       let index = ceil-mono (index_count g (table_of g a) + index_needed g (length f.bytes)) (index_count g (put_file new (table_of g a)) + 1) (entries g) (entries_pos g) (omega (arith, i, i_new)) in
-      let pages = ceil-mono (data_count g (table_of g a) + 1) (data_count g (put_file new (table_of g a)) + 1) (entries g) (entries_pos g) (omega (arith, d, d_new)) in
+      let pages = ceil-mono (data_count g (table_of g a) + n) (data_count g (put_file new (table_of g a)) + 1) (entries g) (entries_pos g) (omega (arith, few, d_new)) in
       omega (arith, w, index, pages)
 
 -- A file for which a table has room has no more data pages than the volume,

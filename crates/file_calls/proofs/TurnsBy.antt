@@ -58,14 +58,14 @@ some_among t (u ∷ us) among = omega arith
 
 module _ {D : Type 0} {nor : NorOf D} {g : Geometry} where
   -- blocks that are cleaned for few pages are cleaned for these
-  cleans_more : {i p : ℕ} {old new : D} {P : Type 0} → i ≤ 2 → p ≤ 1 → CleansFor nor g i p old new P → CleansFor nor g 2 1 old new P
+  cleans_more : {i p : ℕ} {old new : D} {P : Type 0} → i ≤ 2 → p ≤ 16 → CleansFor nor g i p old new P → CleansFor nor g 2 16 old new P
   cleans_more {i} {p} {old} less fewer call = record {
     mid = call.mid;
     first = call.first;
-    idle = λ ready. call.idle (ready_less g (nor.bytes old) i p 2 1 less fewer ready);
+    idle = λ ready. call.idle (ready_less g (nor.bytes old) i p 2 16 less fewer ready);
     needed = λ whole.
         let w = call.needed whole in
-        record { swept = w.swept; few = w.few; needed = none_more (λ image. IsReady g image i p) (λ image. IsReady g image 2 1) w.swept.through (λ image ready. ready_less g image i p 2 1 less fewer ready) w.needed };
+        record { swept = w.swept; few = w.few; needed = none_more (λ image. IsReady g image i p) (λ image. IsReady g image 2 16) w.swept.through (λ image ready. ready_less g image i p 2 16 less fewer ready) w.needed };
     rest = call.rest;
     none = λ no_index no_pages. absurd (let no : 2 ≡ 0 = no_index in omega (arith, no));
   }
@@ -96,7 +96,7 @@ module _ {D : Type 0} (nor : NorOf D) (g : Geometry) where
   along_then old mid new P (from ∷ more) before first along = (along_then old mid from ⊥ more before first along.0, along.1)
 
   -- one turn
-  along_once : (old new : D) (P : Type 0) → CleansFor nor g 2 1 old new P → TurnsAlong nor g old new P (old ∷ [])
+  along_once : (old new : D) (P : Type 0) → CleansFor nor g 2 16 old new P → TurnsAlong nor g old new P (old ∷ [])
   unfolding TurnsAlong
   along_once old new P call = (reads_none old, call)
 
@@ -118,7 +118,7 @@ module _ {D : Type 0} {nor : NorOf D} {g : Geometry} where
   turns_none {old = old} {new = new} {P = P} reads = record { turns = []; along = along_none nor g old new P reads; few = few_none }
 
   -- with one turn
-  pub turns_once : {ready : Type 0} {parts i p : ℕ} {old new : D} {P : Type 0} → i ≤ 2 → p ≤ 1 → IsFew ready parts 1 → CleansFor nor g i p old new P → CleansInTurns nor g ready parts old new P
+  pub turns_once : {ready : Type 0} {parts i p : ℕ} {old new : D} {P : Type 0} → i ≤ 2 → p ≤ 16 → IsFew ready parts 1 → CleansFor nor g i p old new P → CleansInTurns nor g ready parts old new P
   turns_once {old = old} {new = new} {P = P} less fewer few call = record { turns = old ∷ []; along = along_once nor g old new P (cleans_more less fewer call); few = few }
 
   -- broken off where another is, and no more than so many
@@ -153,7 +153,7 @@ module _ {N : Type 0} {nor : NorOf N} where
   turned_none looks call = record { steps = call; cleans = λ tells need. turns_none looks.reads }
 
   -- one
-  pub turned_once : {T E : Type 0} {errors : Errors E} {ready : Geometry → List ℕ → Type 0} {parts i p : ℕ} {old new : View N nor} {r : Result T E} {step : Step T} → i ≤ 2 → p ≤ 1 →
+  pub turned_once : {T E : Type 0} {errors : Errors E} {ready : Geometry → List ℕ → Type 0} {parts i p : ℕ} {old new : View N nor} {r : Result T E} {step : Step T} → i ≤ 2 → p ≤ 16 →
       (nor.tells old.nor.now → step.needs old.geometry (nor.bytes old.nor.now) → IsFew (ready old.geometry (nor.bytes old.nor.now)) parts 1) → Taken errors i p old new r step → Turned errors ready parts old new r step
   turned_once less fewer few call = record { steps = call.steps; cleans = λ tells need. turns_once less fewer (few tells need) (call.cleans tells need) }
 

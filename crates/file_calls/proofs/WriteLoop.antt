@@ -16,6 +16,7 @@ use Rattle.table_model.specs.Files.{written, stat_of}
 use Rattle.table_model.specs.Room.{has_room}
 use Rattle.table_model.specs.Steps.{part_ends, file_steps, written_up_to}
 use Rattle.table_model.specs.Window.{IsAmong}
+use Rattle.file_write.specs.Appends.{append_room}
 use Rattle.image_model.specs.Tables.{table_of}
 use Rattle.image_model.specs.Tidy.{IsTidy, HasReserve}
 use Rattle.image_laws.proofs.Sounding.{sound-on}
@@ -106,16 +107,17 @@ long_so_far at e bytes f from low high =
     omega (arith, long, part, low)
 
 -- A part of a write: from one place to another, with these bytes.
-pub record IsPart (page size at len from to : ℕ) : Type 0 where
+pub record IsPart (page room size at len from to : ℕ) : Type 0 where
   pub low : at ≤ from
   pub some : from < to
   pub within : to ≤ at + len
-  pub one_page : from % page + (to - from) ≤ page
+  pub one_page : from < size → from % page + (to - from) ≤ page
+  pub fits : size ≤ from → to - from ≤ room
   pub old : from < size → to ≤ size
   pub is_end : IsPartEnd page size at len to
 
-pub is_part : (page size at len from to end : ℕ) → at ≤ from → end ≡ at + len → from < to → to ≤ end → from % page + (to - from) ≤ page → (from < size → to ≤ size) → ((start count : ℕ) → start ≤ from → end ≡ start + count → IsPartEnd page size start count to) → IsPart page size at len from to
-is_part page size at len from to end low end_is some within one_page old is_end = record { low = low; some = some; within = omega (arith, end_is, within); one_page = one_page; old = old; is_end = is_end at len low end_is }
+pub is_part : (page room size at len from to end : ℕ) → at ≤ from → end ≡ at + len → from < to → to ≤ end → (from < size → from % page + (to - from) ≤ page) → (size ≤ from → to - from ≤ room) → (from < size → to ≤ size) → ((start count : ℕ) → start ≤ from → end ≡ start + count → IsPartEnd page size start count to) → IsPart page room size at len from to
+is_part page room size at len from to end low end_is some within one_page fits old is_end = record { low = low; some = some; within = omega (arith, end_is, within); one_page = one_page; fits = fits; old = old; is_end = is_end at len low end_is }
 
 -- ---- how many parts there are
 
@@ -153,8 +155,8 @@ chosen_more p a (suc n) (suc m) e low high passes =
     (λ (no : p a ≡ false). rw no rest)
     (cases_Bool (p a))
 
-ends_more : (page size at len from to : ℕ) → IsPart page size at len from to → length (ends_to page size at len from) + 1 ≤ length (ends_to page size at len to)
-ends_more page size at len from to part =
+ends_more : (page room size at len from to : ℕ) → IsPart page room size at len from to → length (ends_to page size at len from) + 1 ≤ length (ends_to page size at len to)
+ends_more page room size at len from to part =
     let low = part.low in
     let some = part.some in
     chosen_more (λ x. (x % page == 0) || (x == size) || (x == at + len)) (at + 1) (from - at) (to - at) to (omega (arith, low, some)) (omega (arith, low, some)) (end_passes page size at len to part.is_end.ends)
@@ -171,7 +173,7 @@ pub steps_count : (g : Geometry) (at : ℕ) (bytes : List ℕ) (f : File) (files
 unfolding file_steps
 steps_count g at bytes f files = length-map (part_ends (body g) (length f.bytes) at (length bytes)) (written_up_to at bytes f files)
 
-module _ (g : Geometry) (a mid : List ℕ) (id at from to : ℕ) (known : Bool) (bytes : List ℕ) (f : File) (can : CanWrite g a id at bytes f) (part : IsPart (body g) (length f.bytes) at (length bytes) from to) (done : WrittenTo g id at from bytes f a mid)
+module _ (g : Geometry) (a mid : List ℕ) (id at from to : ℕ) (known : Bool) (bytes : List ℕ) (f : File) (can : CanWrite g a id at bytes f) (part : IsPart (body g) (append_room g from) (length f.bytes) at (length bytes) from to) (done : WrittenTo g id at from bytes f a mid)
     (sure : known ≡ true → length f.bytes < from) where
   abbrev bytes_of : List ℕ
   bytes_of = slice_range bytes (from - at) (to - at)
@@ -214,12 +216,12 @@ module _ (g : Geometry) (a mid : List ℕ) (id at from to : ℕ) (known : Bool) 
       let long = long_before in
       let old = part.old in
       let page = part.one_page in
+      let fits = part.fits in
       record {
         can = record { tidy = done.tidy; reserve = done.reserve; there = there_now; some = let some = part.some in omega (arith, n, some); from = omega (arith, long); room = ap (has_room g) after_is ∙ room_after };
-        one_page = omega (arith, n, page);
         inside = ⊎_elim
-            (λ (inner : from < length f.bytes). let within = old inner in let some = part.some in inl (omega (arith, n, long, within, some)))
-            (λ (end : length f.bytes ≤ from). inr (omega (arith, long, end)))
+            (λ (inner : from < length f.bytes). let within = old inner in let some = part.some in let one = page inner in inl (omega (arith, n, long, within, some), omega (arith, n, one)))
+            (λ (end : length f.bytes ≤ from). let all = fits end in inr (omega (arith, long, end), omega (arith, n, all)))
             (cases_lt from (length f.bytes));
         ready = λ is. done.ready (sure is);
       }
@@ -262,7 +264,7 @@ module _ (g : Geometry) (a mid : List ℕ) (id at from to : ℕ) (known : Bool) 
   pub part_few : (m n : ℕ) → IsFew (NeedsNoTail id (length f.bytes) from g a) (length (ends_to (body g) (length f.bytes) at (length bytes) from)) m →
       IsFew (NeedsNoTail id (length (so_far at from bytes f).bytes) (from + length bytes_of) g mid) 1 n → IsFew (NeedsNoTail id (length f.bytes) to g a) (length (ends_to (body g) (length f.bytes) at (length bytes) to)) (n + m)
   part_few m n first last =
-      let more = ends_more (body g) (length f.bytes) at (length bytes) from to part in
+      let more = ends_more (body g) (append_room g from) (length f.bytes) at (length bytes) from to part in
       let some = part.some in
       let low = first.most in
       let high = last.most in
@@ -300,7 +302,7 @@ module _ {N : Type 0} {nor : NorOf N} {old mid new : View N nor} {r : Result (Un
       turned_never (stepped_then first.steps (next some (sym (length-replicate {A = ℕ} most 0))).steps (λ tells can. record { needs = can; cut = λ c cut. cut }) (λ tells can done. absurd (never tells can))) never
 
   -- a part more of a write
-  pub write_turn : IsPart (body mid.geometry) size at (length bytes) from to → most ≡ from + (size - from) → (nor.tells old.nor.now → CanWrite old.geometry (nor.bytes old.nor.now) id at bytes f → size ≡ length f.bytes) → (known ≡ true → size < from) →
+  pub write_turn : IsPart (body mid.geometry) (append_room mid.geometry from) size at (length bytes) from to → most ≡ from + (size - from) → (nor.tells old.nor.now → CanWrite old.geometry (nor.bytes old.nor.now) id at bytes f → size ≡ length f.bytes) → (known ≡ true → size < from) →
       Turned refusing (NeedsNoTail id (length f.bytes) from) (length (ends_to (body old.geometry) (length f.bytes) at (length bytes) from)) old mid (Ok tt) (writing_to id at from bytes f) →
       ((e : File) → most ≡ length e.bytes → Turned refusing (NeedsNoTail id (length e.bytes) (from + length (slice_range bytes (from - at) (to - at)))) 1 mid new r (writing_part id known from (slice_range bytes (from - at) (to - at)) e)) →
       Turned refusing (NeedsNoTail id (length f.bytes) to) (length (ends_to (body old.geometry) (length f.bytes) at (length bytes) to)) old new r (writing_to id at to bytes f)
@@ -308,7 +310,7 @@ module _ {N : Type 0} {nor : NorOf N} {old mid new : View N nor} {r : Result (Un
       (λ (same : size ≡ length f.bytes). ⊎_elim
       (λ (past : length f.bytes < at). no_turn (λ tells can. let inside = can.from in omega (arith, inside, past)) first next)
       (λ (inside : at ≤ length f.bytes).
-      let here : IsPart (body old.geometry) (length f.bytes) at (length bytes) from to = rw (first.steps.framed.same.geometry, same) at part in
+      let here : IsPart (body old.geometry) (append_room old.geometry from) (length f.bytes) at (length bytes) from to = rw (first.steps.framed.same.geometry, same) at part in
       let long = long_so_far at from bytes f inside part.low (let some = part.some in let within = part.within in omega (arith, some, within)) in
       let behind : known ≡ true → length f.bytes < from = λ is. let past = sure is in omega (arith, past, same) in
       turned_then first (next (so_far at from bytes f) (omega (arith, most_is, long, same))) (λ tells can. record { needs = can; cut = λ c cut. cut })

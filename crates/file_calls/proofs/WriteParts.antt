@@ -1,7 +1,8 @@
 -- One part of a write: pages are had for it, the tail is made ready where bytes are added behind it, and the page step is taken.
-use Rattle.std.proofs.Common.{◌≡◌, ℕ, ◌+◌, ◌-◌, ◌/◌, ◌%◌, ◌==◌, ◌<◌, ◌≤◌, ◌&&◌, nat_le, ⊎_elim, inl, inr, List, length, Bool, true, false, refl, sym, ◌∙◌, ap, subst, arith, replicate}
+use Rattle.std.proofs.Common.{◌≡◌, ℕ, ◌+◌, ◌-◌, ◌*◌, ◌/◌, ◌%◌, ◌⊎◌, ◌==◌, ◌<◌, ◌≤◌, ◌&&◌, nat_le, ⊎_elim, inl, inr, List, length, Bool, true, false, refl, sym, ◌∙◌, ap, subst, arith, replicate}
 use Rattle.std.specs.Prelude.{◌↔◌, Some, is_some, Result, Ok, Err, if◌then◌else◌}
-use Rattle.std.proofs.lemmas.Bool.{cases_lt}
+use Rattle.std.proofs.Math.Nat.{div-add-mod, mul-mod_right, mul-le-mul_right}
+use Rattle.std.proofs.lemmas.Bool.{cases_lt, cases_eq, eq-eqb, ne_eqb, lt-ltb, le-ltb}
 use Rattle.std.proofs.lemmas.List.{length-replicate}
 use Rattle.nor_core.specs.declared.state.NorState.{Ghosts as NorOf}
 use Rattle.table_model.specs.declared.error.FsErr.{FsErr}
@@ -12,6 +13,8 @@ use Rattle.table_model.specs.Files.{written}
 use Rattle.table_model.specs.Room.{data_pages}
 use Rattle.image_model.specs.Collect.{are_had}
 use Rattle.image_model.specs.Tables.{table_of}
+use Rattle.image_model.specs.Within.{sizes}
+use Rattle.image_laws.proofs.Serving.{ceil-mono}
 use Rattle.image_model.specs.Tidy.{IsTidy, HasReserve}
 use Rattle.image_laws.proofs.Sounding.{sound-on}
 use Rattle.renew_laws.specs.Tails.{IsTailReady}
@@ -20,7 +23,8 @@ use Rattle.room_laws.proofs.Staying.{reserve_mends}
 use Rattle.header_laws.proofs.Listed.{any-found}
 use Rattle.page_renew.specs.PageSteps.{StepCut}
 use Rattle.block_gc.specs.RoomMade.{MadeRoom}
-use Rattle.file_write.specs.Appends.{index_needed, appending}
+use Rattle.file_write.specs.Appends.{index_needed, pages_most, append_room, appending}
+use Rattle.file_write.proofs.Sizes.{next_pages, pages_few as few_by_bytes}
 use Rattle.file_write.specs.Overwrites.{overwriting}
 use Rattle.file_write.specs.Readyings.{readying}
 use Rattle.flash_view.specs.declared.view.View.{View}
@@ -81,7 +85,7 @@ module _ (g : Geometry) (a : List ℕ) (id : ℕ) (known : Bool) (at : ℕ) (byt
 
   pub overwrite_ends : at + length bytes ≤ length f.bytes → (mid : List ℕ) → MadeRoom g 1 1 a mid → Finishes g a mid (overwriting id at bytes f) (writing_part id known at bytes f)
   overwrite_ends inside mid made = record {
-    needs = record { tidy = made.tidy; there = rw made.table can.can.there; some = can.can.some; one_page = can.one_page; inside = inside; had = made.ready.had };
+    needs = record { tidy = made.tidy; there = rw made.table can.can.there; some = can.can.some; one_page = ⊎_elim (λ (i : (at + length bytes ≤ length f.bytes) × (at % body g + length bytes ≤ body g)). i.1) (λ (e : (at ≡ length f.bytes) × (length bytes ≤ append_room g at)). let some = can.can.some in absurd (omega (arith, e.0, inside, some))) can.inside; inside = inside; had = made.ready.had };
     cut = λ c cut. step_cut g (put_file (written at bytes f) (table_of g a)) a mid c made.tidy made.table made.ready.reserve (rw made.table at cut);
     done = λ c ok done. record {
       tidy = done.step.tidy;
@@ -125,6 +129,31 @@ tail_once b told is = record { most = omega arith; few = λ ready. not_ready b t
 
 -- ---- bytes behind the end of a file
 
+-- the data pages of a file and those of bytes behind it are those of the longer one, or one more
+pages_join : (g : Geometry) (m n : ℕ) → data_pages g m + data_pages g n ≤ data_pages g (m + n) + 1
+pages_join g m n =
+    let big = (sizes g).page in
+    let whole : body g * (m / body g) + m % body g ≡ m = div-add-mod m (body g) in
+    let more = next_pages g (body g * (m / body g)) (m % body g + n) (mul-mod_right (body g) (m / body g)) in
+    let first = next_pages g (body g * (m / body g)) (m % body g) (mul-mod_right (body g) (m / body g)) in
+    let one = few_by_bytes g (m % body g) 1 (let low : m % body g < body g = omega (arith, big) in omega (arith, low)) in
+    let long : body g * (m / body g) + (m % body g + n) ≡ m + n = omega (arith, whole) in
+    let all : data_pages g (m + n) ≡ body g * (m / body g) / body g + data_pages g (m % body g + n) = ap (λ (k : ℕ). data_pages g k) (sym long) ∙ more in
+    let own : data_pages g m ≡ body g * (m / body g) / body g + data_pages g (m % body g) = ap (λ (k : ℕ). data_pages g k) (sym whole) ∙ first in
+    let mono = ceil-mono n (m % body g + n) (body g) (omega (arith, big)) (omega arith) in
+    omega (arith, all, own, one, mono)
+
+-- one page step adds sixteen data pages at most
+room_pages : (g : Geometry) (size n : ℕ) → n ≤ append_room g size → data_pages g n ≤ 16
+room_pages g size n fits = few_by_bytes g n 16 (⊎_elim
+    (λ (none : size % body g ≡ 0).
+    let room : n ≤ pages_most g (size / body g) * body g = rw (eq-eqb (size % body g) 0 none) at fits in
+    let most : pages_most g (size / body g) ≤ 16 = ⊎_elim (λ (near : size / body g < head_slots g). rw (lt-ltb (size / body g) (head_slots g) near) (omega arith)) (λ (far : head_slots g ≤ size / body g). rw (le-ltb (size / body g) (head_slots g) far) (omega arith)) (cases_lt (size / body g) (head_slots g)) in
+    let wide : pages_most g (size / body g) * body g ≤ 16 * body g = mul-le-mul_right (body g) most in
+    omega (arith, room, wide))
+    (λ (used : size % body g ≡ 0 → ⊥). let room : n ≤ body g - size % body g = rw (ne_eqb (size % body g) 0 used) at fits in omega (arith, room))
+    (cases_eq (size % body g) 0))
+
 has_by : (id : ℕ) (files : List File) (f : File) → file_of id files ≡ Some f → has_id id files ≡ true
 unfolding has_id file_of
 has_by id files f there = any-found (λ (x : File). x.id == id) files ∙ ap is_some there
@@ -141,7 +170,6 @@ module _ (g : Geometry) (a : List ℕ) (id : ℕ) (known : Bool) (at : ℕ) (byt
   append_goes mid tail = record {
     needs = record {
       can = record { tidy = tail.done.tidy; reserve = tail.done.reserve; there = rw tail.done.table can.can.there; some = can.can.some; from = can.can.from; room = rw tail.done.table can.can.room };
-      one_page = can.one_page;
       inside = can.inside;
       ready = λ is. tail.ready;
     };
@@ -172,29 +200,37 @@ module _ (g : Geometry) (a : List ℕ) (id at : ℕ) (bytes : List ℕ) (f : Fil
   behind : length (written at bytes f).bytes ≡ length f.bytes + length bytes
   behind = let long = written_size at bytes f can.can.from in omega (arith, long, end)
 
-  room_for : HasRoomFor g a (index_needed g at) 1
-  room_for = rw end (room_behind g a id f (written at bytes f) can.can.tidy.undamaged can.can.there refl can.can.room (let long = behind in let some = can.can.some in omega (arith, long, some)))
+  -- one page step adds them
+  fits_room : length bytes ≤ append_room g at
+  fits_room = ⊎_elim
+      (λ (i : (at + length bytes ≤ length f.bytes) × (at % body g + length bytes ≤ body g)). let some = can.can.some in absurd (omega (arith, i.0, some, end)))
+      (λ (e : (at ≡ length f.bytes) × (length bytes ≤ append_room g at)). e.1)
+      can.inside
+
+  room_for : HasRoomFor g a (index_needed g at) (data_pages g (length bytes))
+  room_for = rw end (room_behind g a id f (written at bytes f) can.can.tidy.undamaged can.can.there refl can.can.room (let long = behind in let some = can.can.some in omega (arith, long, some))
+      (data_pages g (length bytes)) (let more = pages_join g (length f.bytes) (length bytes) in subst (λ (n : ℕ). data_pages g (length f.bytes) + data_pages g (length bytes) ≤ data_pages g n + 1) (sym behind) more))
 
   few_after : data_pages g (length f.bytes + length bytes) ≤ usable g
   few_after = subst (λ (n : ℕ). data_pages g n ≤ usable g) behind (few_pages g (table_of g a) (written at bytes f) can.can.room)
 
-  module _ (count : ℕ) (is : count ≡ index_needed g at) where
-    pub pages_begin : Begins g a (taking_pages count 1) (writing_part id true at bytes f)
+  module _ (count pages : ℕ) (is : count ≡ index_needed g at) (pages_is : pages ≡ data_pages g (length bytes)) where
+    pub pages_begin : Begins g a (taking_pages count pages) (writing_part id true at bytes f)
     pages_begin = record {
-      needs = record { tidy = can.can.tidy; reserve = can.can.reserve; room = subst (λ (n : ℕ). HasRoomFor g a n 1) (sym is) room_for };
+      needs = record { tidy = can.can.tidy; reserve = can.can.reserve; room = rw (is, pages_is) room_for };
       cut = λ c cut. room_cut g (put_file (written at bytes f) (table_of g a)) a c cut;
     }
 
-    pub pages_end : (mid : List ℕ) → MadeRoom g count 1 a mid → Finishes g a mid (appending id bytes f) (writing_part id true at bytes f)
+    pub pages_end : (mid : List ℕ) → MadeRoom g count pages a mid → Finishes g a mid (appending id bytes f) (writing_part id true at bytes f)
     pages_end mid made = record {
       needs = record {
         tidy = made.tidy;
         there = rw made.table can.can.there;
         ready = made.tails id (can.ready refl);
         some = can.can.some;
-        one_page = rw end at can.one_page;
+        fits = rw end at fits_room;
         few = few_after;
-        had = subst (λ (n : ℕ). are_had g mid n 1 ≡ true) (is ∙ ap (index_needed g) end) made.ready.had;
+        had = subst (λ (n : ℕ). are_had g mid (index_needed g (length f.bytes)) n ≡ true) pages_is (subst (λ (n : ℕ). are_had g mid n pages ≡ true) (is ∙ ap (index_needed g) end) made.ready.had);
       };
       cut = λ c cut. step_cut g (put_file (written at bytes f) (table_of g a)) a mid c made.tidy made.table made.ready.reserve (rw (made.table, sym end) at cut);
       done = λ c ok done. record {
@@ -218,17 +254,17 @@ pages_few : (g : Geometry) (at count : ℕ) → count ≡ index_needed g at → 
 pages_few g at count is = let few = needed_few g at in omega (arith, few, is)
 
 -- over a view
-module _ {N : Type 0} {nor : NorOf N} {old new : View N nor} {r : Result (Unit {0}) FsErr} (id at : ℕ) (bytes : List ℕ) (f : File) (end : at ≡ length f.bytes) (count : ℕ) (is : count ≡ index_needed old.geometry at) where
+module _ {N : Type 0} {nor : NorOf N} {old new : View N nor} {r : Result (Unit {0}) FsErr} (id at : ℕ) (bytes : List ℕ) (f : File) (end : at ≡ length f.bytes) (count pages : ℕ) (is : count ≡ index_needed old.geometry at) (pages_is : pages ≡ data_pages old.geometry (length bytes)) (room : length bytes ≤ append_room old.geometry at) where
   -- no pages were had
-  pub paged_not : {e : FsErr} → Taken refusing count 1 old new (Err e) (taking_pages count 1) → r ≡ Err e → Turned refusing (λ g was. Unit {0}) 1 old new r (writing_part id true at bytes f)
-  paged_not call same = turned_once (pages_few old.geometry at count is) (omega arith) (λ tells can. few_once (omega arith)) (taken_passes call same (λ tells can. pages_begin old.geometry (nor.bytes old.nor.now) id at bytes f can end count is))
+  pub paged_not : {e : FsErr} → Taken refusing count pages old new (Err e) (taking_pages count pages) → r ≡ Err e → Turned refusing (λ g was. Unit {0}) 1 old new r (writing_part id true at bytes f)
+  paged_not call same = turned_once (pages_few old.geometry at count is) (let most = room_pages old.geometry at (length bytes) room in omega (arith, most, pages_is)) (λ tells can. few_once (omega arith)) (taken_passes call same (λ tells can. pages_begin old.geometry (nor.bytes old.nor.now) id at bytes f can end count pages is pages_is))
 
   -- .. or they were, and then the page step was taken
-  pub paged_then : {mid : View N nor} {x : Unit {0}} → Taken refusing count 1 old mid (Ok x) (taking_pages count 1) → Stepped refusing mid new r (appending id bytes f) → Turned refusing (λ g was. Unit {0}) 1 old new r (writing_part id true at bytes f)
-  paged_then {mid} call next = turned_once (pages_few old.geometry at count is) (omega arith) (λ tells can. few_once (omega arith))
+  pub paged_then : {mid : View N nor} {x : Unit {0}} → Taken refusing count pages old mid (Ok x) (taking_pages count pages) → Stepped refusing mid new r (appending id bytes f) → Turned refusing (λ g was. Unit {0}) 1 old new r (writing_part id true at bytes f)
+  paged_then {mid} call next = turned_once (pages_few old.geometry at count is) (let most = room_pages old.geometry at (length bytes) room in omega (arith, most, pages_is)) (λ tells can. few_once (omega arith))
       (taken_then (λ g was image cut. step_leaves cut) call next
-      (λ tells can. pages_begin old.geometry (nor.bytes old.nor.now) id at bytes f can end count is)
-      (λ tells can made. pages_end old.geometry (nor.bytes old.nor.now) id at bytes f can end count is (nor.bytes mid.nor.now) made))
+      (λ tells can. pages_begin old.geometry (nor.bytes old.nor.now) id at bytes f can end count pages is pages_is)
+      (λ tells can made. pages_end old.geometry (nor.bytes old.nor.now) id at bytes f can end count pages is pages_is (nor.bytes mid.nor.now) made))
 
 module _ {N : Type 0} {nor : NorOf N} {old new : View N nor} {r : Result (Unit {0}) FsErr} (id : ℕ) (known : Bool) (at : ℕ) (bytes : List ℕ) (f : File) where
   -- the tail was not had
@@ -257,7 +293,7 @@ pub part_inside : {N : Type 0} {nor : NorOf N} {old new : View N nor} {r : Resul
 part_inside id known at bytes f low call = ⊎_elim
     (λ (past : length f.bytes < at + length bytes).
     let some : File = record f { bytes = replicate (at + length bytes) 0 } in
-    let never : (g : Geometry) (was : List ℕ) → CanWritePart g was id known at bytes f → ⊥ = λ g was can. ⊎_elim (λ (inside : at + length bytes ≤ length f.bytes). omega (arith, inside, past)) (λ (end : at ≡ length f.bytes). omega (arith, end, low)) can.inside in
+    let never : (g : Geometry) (was : List ℕ) → CanWritePart g was id known at bytes f → ⊥ = λ g was can. ⊎_elim (λ (inside : (at + length bytes ≤ length f.bytes) × (at % body g + length bytes ≤ body g)). omega (arith, inside.0, past)) (λ (end : (at ≡ length f.bytes) × (length bytes ≤ append_room g at)). omega (arith, end.0, low)) can.inside in
     turned_never (no_step (call some (let e = length-replicate {A = ℕ} (at + length bytes) 0 in omega (arith, e))).steps (λ tells can. never _ _ can)) (λ tells can. never _ _ can))
     (λ (inside : at + length bytes ≤ length f.bytes). turned_once (omega arith) (omega arith) (λ tells can. few_once (omega arith)) (call f inside))
     (cases_lt (length f.bytes) (at + length bytes))

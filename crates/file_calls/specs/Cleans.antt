@@ -64,10 +64,10 @@ pub record Taken {N T E : Type 0} {nor : NorOf N} (errors : Errors E) (index pag
 -- ---- writes
 
 -- Only reads between two moments, or turns of cleaning: these are the moments where each turn began, the last one first. A turn cleans for two
--- index pages and one data page at most, and one that another follows wasn't broken off.
+-- index pages and the data pages of one page step at most, and one that another follows wasn't broken off.
 unfoldable pub TurnsAlong : {D : Type 0} → NorOf D → Geometry → (old new : D) → (broken : Type 0) → List D → Type 0
 TurnsAlong nor g old new broken [] = OnlyReads nor old new
-TurnsAlong nor g old new broken (from ∷ more) = TurnsAlong nor g old from ⊥ more × CleansFor nor g 2 1 from new broken
+TurnsAlong nor g old new broken (from ∷ more) = TurnsAlong nor g old from ⊥ more × CleansFor nor g 2 16 from new broken
 
 -- So many turns a write takes: one for each of its parts at most, and one more where a tail is to be made ready. `ready` says that none is.
 pub record IsFew (ready : Type 0) (parts turns : ℕ) : Type 0 where

@@ -17,6 +17,7 @@ use Rattle.image_model.specs.Tidy.{IsTidy, HasReserve}
 use Rattle.image_model.specs.Sound.{IsSound}
 use Rattle.room_laws.specs.Recovery.{Recovers}
 use Rattle.renew_laws.specs.Tails.{IsTailReady}
+use Rattle.file_write.specs.Appends.{append_room}
 use Rattle.trim_laws.specs.Upkeep.{Upkeep}
 use Rattle.flash_view.specs.Steps.{Step}
 use Rattle.file_calls.specs.Cuts.{JobCut}
@@ -33,12 +34,11 @@ pub record CanWrite (g : Geometry) (image : List ℕ) (id at : ℕ) (bytes : Lis
   pub from : at ≤ length f.bytes
   pub room : has_room g (put_file (written at bytes f) (table_of g image)) ≡ true
 
--- They are one part of a write: they end in the data page in which they begin, and end inside the file or begin at its end. Where the tail is known to
--- be ready, it is.
+-- They are one part of a write: they end in the data page in which they begin, inside the file, or they begin at its end and one page step adds them.
+-- Where the tail is known to be ready, it is.
 pub record CanWritePart (g : Geometry) (image : List ℕ) (id : ℕ) (known : Bool) (at : ℕ) (bytes : List ℕ) (f : File) : Type 0 where
   pub can : CanWrite g image id at bytes f
-  pub one_page : at % body g + length bytes ≤ body g
-  pub inside : (at + length bytes ≤ length f.bytes) ⊎ (at ≡ length f.bytes)
+  pub inside : ((at + length bytes ≤ length f.bytes) × (at % body g + length bytes ≤ body g)) ⊎ ((at ≡ length f.bytes) × (length bytes ≤ append_room g at))
   pub ready : known ≡ true → IsTailReady g image id
 
 -- What is left done: a tidy image with its reserve, and a table.

@@ -6,7 +6,7 @@ ghost use Rattle.call_model.specs.Parts.{IsPartEnd};
 ghost use Rattle.flash_view.specs.Same.{OnlyLooks};
 ghost use Rattle.file_calls.specs.Collecting.{refusing};
 ghost use Rattle.file_calls.specs.Cleans.{Taken, Turned, NeedsNoTail, part_count};
-ghost use Rattle.file_write.specs.Appends.{index_needed as the_index_needed};
+ghost use Rattle.file_write.specs.Appends.{index_needed as the_index_needed, append_room as the_append_room};
 ghost use Rattle.file_write.specs.Readyings.{HasReadyTail};
 ghost use Rattle.renew_laws.specs.Tails.{IsTailReady};
 ghost use Rattle.file_calls.specs.Writings.{CanWrite, writing_part, writing, having_tail, needing_tail};
@@ -14,10 +14,11 @@ ghost use Rattle.file_calls.specs.Writings.{CanWrite, writing_part, writing, hav
 use crate::collecting::take_pages;
 use crate::reading::record_of;
 use file_read::no_header;
-use file_write::{append_step, is_tail_ready, overwrite_step, ready_tail};
+use file_write::{append_room, append_step, is_tail_ready, overwrite_step, ready_tail};
 use flash_view::View;
 use geometry::Geometry;
 use nor_core::{Nor, NorState};
+use page_layout::data_pages;
 use table_model::FsErr;
 
 // Overwrites bytes of a file inside one data page, once pages are had.
@@ -68,8 +69,8 @@ fn need_tail<N: Nor>(v: &mut View<'_, N>, id: u16, known: bool) -> Result<(), Fs
     have_tail(v, id)
 }
 
-// Adds bytes at the end of a file of that size in bytes, inside one data page, once its tail is ready and pages are had. Whether
-// it is ready may be known.
+// Adds bytes at the end of a file of that size in bytes, as many as one page step adds, once its tail is ready and pages are had.
+// Whether it is ready may be known.
 fn append_part<N: Nor>(
     v: &mut View<'_, N>,
     id: u16,
@@ -77,12 +78,13 @@ fn append_part<N: Nor>(
     size: u32,
     bytes: &[u8],
 ) -> Result<(), FsErr>
+    requires { length bytes.now ≤ the_append_room v.old.geometry size }
     ensures { (f : File) → size ≡ length f.bytes →
         Turned refusing (NeedsNoTail id (length f.bytes) (size + length bytes.now)) 1 v.old v.new result (writing_part id known size bytes.now f) }
 {
     let g = v.geometry;
     need_tail(v, id, known)?;
-    take_pages(v, index_needed(&g, size), 1)?;
+    take_pages(v, index_needed(&g, size), data_pages(&g, bytes.len() as u32))?;
     append_step(v, id, bytes)?;
     Ok(())
 }
@@ -96,6 +98,7 @@ fn write_part<N: Nor>(
     at: u32,
     bytes: &[u8],
 ) -> Result<(), FsErr>
+    requires { size ≤ at → length bytes.now ≤ the_append_room v.old.geometry size }
     ensures { (f : File) → size ≡ length f.bytes →
         Turned refusing (NeedsNoTail id (length f.bytes) (at + length bytes.now)) 1 v.old v.new result (writing_part id known at bytes.now f) }
 {
@@ -106,17 +109,33 @@ fn write_part<N: Nor>(
     }
 }
 
+// How many bytes a part of a write has at most that begins at the place `from`: up to the end of the data page, or behind the old end as many
+// as one page step adds.
+fn part_room(g: &Geometry, size: u32, from: u32) -> u32
+    ensures some { 0 < result }
+    ensures page { from < size → result ≡ body g.now - from % body g.now }
+    ensures room { size ≤ from → result ≡ the_append_room g.now from }
+    ensures ends { (from + result) % body g.now ≡ 0 }
+{
+    if from < size {
+        g.body() - from % g.body()
+    } else {
+        append_room(g, from)
+    }
+}
+
 // Where a part of a write ends that begins at the place `from`: at the end of a data page, at the file's old end, or at the write's own.
+// Behind the old end it has as many data pages as one page step adds.
 fn part_end(g: &Geometry, size: u32, from: u32, end: u32) -> u32
     requires from { from < end }
     ensures behind { from < result }
     ensures within { result ≤ end }
-    ensures page { from % body g.now + (result - from) ≤ body g.now }
+    ensures page { from < size → from % body g.now + (result - from) ≤ body g.now }
+    ensures room { size ≤ from → result - from ≤ the_append_room g.now from }
     ensures old { from < size → result ≤ size }
     ensures is { (at len : ℕ) → at ≤ from → end ≡ at + len → IsPartEnd (body g.now) size at len result }
 {
-    let body = g.body();
-    let left = body - from % body;
+    let left = part_room(g, size, from);
     let mut to = if end - from > left { from + left } else { end };
     if from < size && size < to {
         to = size;

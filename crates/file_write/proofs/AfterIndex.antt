@@ -24,7 +24,7 @@ use Rattle.trim_laws.proofs.Wears.{wear_then, programs_keep}
 use Rattle.flash_view.specs.declared.kinds.Kind.TheVariants.{Index, Data}
 use Rattle.flash_view.specs.Steps.{Begins, Finishes}
 use Rattle.free_search.specs.Had.{IsClear}
-use Rattle.free_search.proofs.HadBy.{put_had}
+use Rattle.free_search.proofs.HadBy.{put_had, less_had}
 use Rattle.renew_laws.specs.Primed.{Primed}
 use Rattle.renew_laws.specs.Tails.{HasFreeEntries}
 use Rattle.renew_laws.proofs.PrimeBeside.{prime-index}
@@ -40,10 +40,10 @@ use Rattle.page_renew.proofs.Homes.{index_some, of_kind}
 use Rattle.page_renew.proofs.SlotNames.{slots_rise}
 use Rattle.file_write.specs.Appends.{CanAppendAt, index_needed, indexing_data, appending_at}
 use Rattle.file_write.specs.Beside.{HasPage, AddsPage, AddedPage, adding, is_data, is_further}
-use Rattle.file_write.proofs.AppendEnds.{primed_clear, IsReady, kept, ends}
+use Rattle.file_write.proofs.AppendEnds.{primed_clear, IsReadyIn, kept, ends_in}
 use Rattle.file_write.proofs.AfterData.{data_begins, primed, its_page, still_clear, still_free, still_had, reserve, wear}
 use Rattle.file_write.proofs.LastPage.{one_each, page_fits}
-use Rattle.file_write.proofs.Sizes.{whole_pages, next_page, span_behind, span_within}
+use Rattle.file_write.proofs.Sizes.{whole_pages, next_page, some_pages, span_behind, span_within}
 
 module _ (g : Geometry) (a : List ℕ) (id h size span s p end : ℕ) (bytes : List ℕ) (f : File) (can : CanAppendAt g a id h size bytes f) (span_is : span ≡ size / body g) (whole : size % body g ≡ 0) (far : head_slots g ≤ span)
     (first : (span - head_slots g) % span_slots g ≡ 0) (s_is : s ≡ index_span g span) (end_is : end ≡ size + length bytes) where
@@ -68,7 +68,7 @@ module _ (g : Geometry) (a : List ℕ) (id h size span s p end : ℕ) (bytes : L
       let two : nat_le (head_slots g) (length f.bytes / body g) ≡ true = rw place (le-leb (head_slots g) span far) in
       let three : ((length f.bytes / body g - head_slots g) % span_slots g == 0) ≡ true = rw place (eq-eqb _ 0 first) in
       let needed : index_needed g (length f.bytes) ≡ 2 = rw (one, two, three) refl in
-      subst (λ (n : ℕ). are_had g a n 1 ≡ true) needed can.can.had
+      less_had g a 2 (data_pages g (length bytes)) 2 1 (omega arith) (some_pages g (length bytes) can.can.some) (subst (λ (n : ℕ). are_had g a n (data_pages g (length bytes)) ≡ true) needed can.can.had)
 
   -- the data page is put first
   pub index_starts : Begins g a (adding Data (is_data id span bytes)) (indexing_data id h size span s p bytes f)
@@ -153,7 +153,7 @@ module _ (g : Geometry) (a : List ℕ) (id h size span s p end : ℕ) (bytes : L
 
       later : data_pages g end ≡ span + 1
       later =
-          let fits = page_fits g a id h size bytes f can in
+          let fits = page_fits g a id h size bytes f can (inr (subst (λ (n : ℕ). head_slots g ≤ n) span_is far)) in
           ap (λ (n : ℕ). data_pages g n) (end_is ∙ ap (λ (n : ℕ). n + length bytes) can.told) ∙ next_page g (size_of can.head) (length bytes) none can.can.some (omega (arith, fits, whole)) ∙ ap (λ (n : ℕ). n + 1) (sym at_t)
 
       named : (y : List ℕ) → (entry_number g (own (live_at g c) id) y span ≡ Some p) × (data_page g (own (live_at g c) id) y span ≡ Some q.page)
@@ -195,7 +195,7 @@ module _ (g : Geometry) (a : List ℕ) (id h size span s p end : ℕ) (bytes : L
           still_free g a id h size span bytes f can b p q x t k page (sym (own-live (live_at g b) (live_at g c) id x (w.put.gains.others x other)) ∙ is_x) kind at_x high (omega (arith, now, count)) low below)
           (cases_eq x r)
 
-      ready : IsReady g a id h size bytes f can c (Grow end)
+      ready : IsReadyIn g a id h size bytes f can c (Grow end)
       ready = record {
         beside = two;
         z = q.page;
@@ -205,7 +205,7 @@ module _ (g : Geometry) (a : List ℕ) (id h size span s p end : ℕ) (bytes : L
           takes = tt;
           size = omega (arith, end_is, can.told);
           some = can.can.some;
-          fits = subst (λ (n : ℕ). n % body g + length bytes ≤ body g) can.told (page_fits g a id h size bytes f can);
+          fits = subst (λ (n : ℕ). n % body g + length bytes ≤ body g) can.told (page_fits g a id h size bytes f can (inr (subst (λ (n : ℕ). head_slots g ≤ n) span_is far)));
           holds = (let start : 5 ≡ 5 + size_of can.head % body g = omega (arith, none) in subst (λ (n : ℕ). slice_range q.page n (n + length bytes) ≡ bytes) start q.is.holds);
           page = λ y edited. subst (λ (t : ℕ). data_page g (own (live_at g c) id) y t ≡ Some q.page) at_t (named y).1;
         };
@@ -218,7 +218,7 @@ module _ (g : Geometry) (a : List ℕ) (id h size span s p end : ℕ) (bytes : L
       }
 
       index_ends : Finishes g a c (renewing_from id h (Grow end) (written (length f.bytes) bytes f)) (appending_at id h size bytes f)
-      index_ends = ends g a id h size bytes f can c (Grow end) ready
+      index_ends = ends_in g a id h size bytes f can c (Grow end) ready
 
   -- both begin the append
   pub index_begins : Begins g a (indexing_data id h size span s p bytes f) (appending_at id h size bytes f)

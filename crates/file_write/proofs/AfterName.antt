@@ -55,7 +55,7 @@ use Rattle.page_renew.proofs.Homes.{index_some}
 use Rattle.page_renew.proofs.SlotNames.{slots_rise}
 use Rattle.file_write.specs.Appends.{CanAppendAt, CanName, IsSlotPage, naming_at, naming_data, appending_at}
 use Rattle.file_write.specs.Beside.{AddedPage, adding, is_data}
-use Rattle.file_write.proofs.AppendEnds.{primed_clear, IsReady, kept, ends}
+use Rattle.file_write.proofs.AppendEnds.{primed_clear, IsReadyIn, kept, ends_in}
 use Rattle.file_write.proofs.AfterData.{data_begins, primed, its_page, still_clear, still_free, still_had, reserve, wear}
 use Rattle.file_write.proofs.LastPage.{one_each, page_fits}
 use Rattle.file_write.proofs.Sizes.{page_few, whole_pages, next_page}
@@ -180,7 +180,7 @@ module _ (g : Geometry) (a : List ℕ) (id h size w span p end : ℕ) (bytes : L
 
       later : data_pages g end ≡ span + 1
       later =
-          let fits = page_fits g a id h size bytes f at in
+          let fits = page_fits g a id h size bytes f at (inr (subst (λ (n : ℕ). head_slots g ≤ n) span_is far)) in
           ap (λ (n : ℕ). data_pages g n) (end_is ∙ ap (λ (n : ℕ). n + length bytes) at.told) ∙ next_page g (size_of at.head) (length bytes) none at.can.some (omega (arith, fits, whole)) ∙ ap (λ (n : ℕ). n + 1) (sym at_t)
 
       slot : slot_word g (page_of g c w) span ≡ p
@@ -212,7 +212,7 @@ module _ (g : Geometry) (a : List ℕ) (id h size w span p end : ℕ) (bytes : L
           still_free g a id h size span bytes f at b p q r t k x (sym ((law c torn).3.others r other) ∙ is_x) kind at_x high (omega (arith, now, count)) low below)
           (cases_eq r w)
 
-      ready : IsReady g a id h size bytes f at c (Grow end)
+      ready : IsReadyIn g a id h size bytes f at c (Grow end)
       ready = record {
         beside = one;
         z = q.page;
@@ -222,7 +222,7 @@ module _ (g : Geometry) (a : List ℕ) (id h size w span p end : ℕ) (bytes : L
           takes = tt;
           size = omega (arith, end_is, at.told);
           some = at.can.some;
-          fits = subst (λ (n : ℕ). n % body g + length bytes ≤ body g) at.told (page_fits g a id h size bytes f at);
+          fits = subst (λ (n : ℕ). n % body g + length bytes ≤ body g) at.told (page_fits g a id h size bytes f at (inr (subst (λ (n : ℕ). head_slots g ≤ n) span_is far)));
           holds = (let start : 5 ≡ 5 + size_of at.head % body g = omega (arith, none) in subst (λ (n : ℕ). slice_range q.page n (n + length bytes) ≡ bytes) start q.is.holds);
           page = λ y edited. subst (λ (t : ℕ). data_page g (own (live_at g c) id) y t ≡ Some q.page) at_t (named y).1;
         };
@@ -240,7 +240,7 @@ module _ (g : Geometry) (a : List ℕ) (id h size w span p end : ℕ) (bytes : L
       }
 
       name_ends : Finishes g a c (renewing_from id h (Grow end) (written (length f.bytes) bytes f)) (naming_at id h size w bytes f)
-      name_ends = let e = ends g a id h size bytes f at c (Grow end) ready in record { needs = e.needs; cut = e.cut; done = e.done }
+      name_ends = let e = ends_in g a id h size bytes f at c (Grow end) ready in record { needs = e.needs; cut = e.cut; done = e.done }
 
     -- its index page is no header page
     named_trims : (c : List ℕ) → HalfProgrammed (w * g.page + slot_at g span) asked b c → Trims g b c

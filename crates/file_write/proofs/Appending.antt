@@ -26,8 +26,7 @@ use Rattle.renew_laws.proofs.PrimePlaces.{primed-places}
 use Rattle.page_renew.specs.PageSteps.{StepCut}
 use Rattle.page_renew.proofs.HeaderRenewed.{stays}
 use Rattle.file_write.specs.Appends.{CanAppend, CanAppendAt, appending_at, appending}
-use Rattle.file_write.proofs.LastPage.{page_fits}
-use Rattle.file_write.proofs.Sizes.{whole_pages, next_page, span_has}
+use Rattle.file_write.proofs.Sizes.{whole_pages, next_pages, some_pages, span_has}
 
 -- what stands is what a cut may leave
 pub append_stays : (g : Geometry) (a : List ℕ) (id : ℕ) (bytes : List ℕ) (f : File) → CanAppend g a id bytes f → StepCut g (put_file (written (length f.bytes) bytes f) (table_of g a)) a a
@@ -72,12 +71,12 @@ module _ (g : Geometry) (a : List ℕ) (id h size : ℕ) (bytes : List ℕ) (f :
   -- the span of the new data page is a word
   pub span_few : size / body g ≤ 0xFFFF
   span_few =
-      let fits = page_fits g a id h size bytes f can in
-      let all = next_page g size (length bytes) whole can.can.some (omega (arith, fits, whole)) in
+      let all = next_pages g size (length bytes) whole in
+      let one = some_pages g (length bytes) can.can.some in
       let same : data_pages g (length f.bytes + length bytes) ≡ data_pages g (size + length bytes) = ap (λ (n : ℕ). data_pages g (n + length bytes)) (can.long ∙ sym can.told) in
       let few = few_usable g in
       let most = can.can.few in
-      omega (arith, all, same, few, most)
+      omega (arith, all, one, same, few, most)
 
   -- its further index page is there where it isn't the first of that
   pub slot_there : (span : ℕ) → span ≡ size / body g → head_slots g ≤ span → (span - head_slots g) % span_slots g ≢ 0 → index_page g (own (live_at g a) id) (index_span g span) ≡ None → ⊥

@@ -1,7 +1,7 @@
 -- Bytes that end in the last data page of a file are programmed there.
-use Rattle.std.proofs.Common.{◌≡◌, ℕ, ◌+◌, ◌-◌, ◌*◌, ◌/◌, ◌%◌, ◌<◌, ◌≤◌, List, length, Bool, true, false, ◌==◌, Option, Some, None, ap, refl, sym, ◌∙◌, arith, subst, ⊎_elim}
+use Rattle.std.proofs.Common.{◌≡◌, ◌≢◌, ℕ, ◌+◌, ◌-◌, ◌*◌, ◌/◌, ◌%◌, ◌<◌, ◌≤◌, ◌⊎◌, List, length, Bool, true, false, ◌==◌, Option, Some, None, ap, refl, sym, ◌∙◌, arith, subst, ⊎_elim, inl, inr}
 use Rattle.std.specs.Prelude.{nat_le, ◌&&◌, if◌then◌else◌, is_some, slice_index, slice_range}
-use Rattle.std.proofs.lemmas.Bool.{cases_eq}
+use Rattle.std.proofs.lemmas.Bool.{cases_eq, eq-eqb, ne_eqb, le-ltb}
 use Rattle.std.proofs.lemmas.Option.{none-some, same_Some, cond_some, option_and_then_some}
 use Rattle.geometry.proofs.Bounds.{few_usable}
 use Rattle.geometry.specs.declared.geometry.Geometry.{Geometry}
@@ -46,9 +46,9 @@ use Rattle.page_renew.specs.declared.edits.Edit.TheVariants.{Grow}
 use Rattle.page_renew.specs.Renewals.{renewing_from}
 use Rattle.page_renew.specs.PageSteps.{StepCut}
 use Rattle.page_renew.proofs.EditsLead.{word_kept}
-use Rattle.file_write.specs.Appends.{CanAppendAt, CanFill, index_needed, filling_at, appending_at}
-use Rattle.file_write.proofs.Sizes.{size_few, last_below}
-use Rattle.file_write.proofs.AppendEnds.{primed_clear, IsReady, kept, ends}
+use Rattle.file_write.specs.Appends.{CanAppendAt, CanFill, index_needed, append_room, filling_at, appending_at}
+use Rattle.file_write.proofs.Sizes.{size_few, last_below, some_pages}
+use Rattle.file_write.proofs.AppendEnds.{primed_clear, IsReadyIn, kept, ends_in}
 
 -- ---- the last data page of a file
 
@@ -129,19 +129,37 @@ last_data g a id h head f prime used =
 -- ---- what the file's header page tells
 
 module _ (g : Geometry) (a : List ℕ) (id h size : ℕ) (bytes : List ℕ) (f : File) (can : CanAppendAt g a id h size bytes f) where
+  -- an index page is needed at least
+  pub one_index : 1 ≤ index_needed g (length f.bytes)
+  one_index = some_index ((length f.bytes % body g == 0) && nat_le (head_slots g) (length f.bytes / body g) && ((length f.bytes / body g - head_slots g) % span_slots g == 0))
+    where
+      some_index : (b : Bool) → 1 ≤ (if b then 2 else 1)
+      some_index true = omega arith
+      some_index false = omega arith
+
   -- a page of each kind is had
   pub one_each : are_had g a 1 1 ≡ true
-  one_each = less_had g a (index_needed g (length f.bytes)) 1 1 1 (some ((length f.bytes % body g == 0) && nat_le (head_slots g) (length f.bytes / body g) && ((length f.bytes / body g - head_slots g) % span_slots g == 0))) (omega arith) can.can.had
-    where
-      some : (b : Bool) → 1 ≤ (if b then 2 else 1)
-      some true = omega arith
-      some false = omega arith
+  one_each = less_had g a (index_needed g (length f.bytes)) (data_pages g (length bytes)) 1 1 one_index (some_pages g (length bytes) can.can.some) can.can.had
 
   pub size_fits : size + length bytes < 0xFFFFFFFF
   size_fits = let few = size_few g (length f.bytes + length bytes) can.can.few in omega (arith, few, can.told, can.long)
 
-  pub page_fits : size % body g + length bytes ≤ body g
-  page_fits = subst (λ (n : ℕ). n % body g + length bytes ≤ body g) (can.long ∙ sym can.told) can.can.one_page
+  pub room_is : length bytes ≤ append_room g size
+  room_is = subst (λ (n : ℕ). length bytes ≤ append_room g n) (can.long ∙ sym can.told) can.can.fits
+
+  -- where they end in the data page in which they begin
+  pub page_fits : (size % body g ≢ 0) ⊎ (head_slots g ≤ size / body g) → size % body g + length bytes ≤ body g
+  page_fits apart =
+      ⊎_elim
+      (λ (none : size % body g ≡ 0). ⊎_elim
+      (λ (used : size % body g ≢ 0). absurd (used none))
+      (λ (far : head_slots g ≤ size / body g). let room : length bytes ≤ 1 * body g = rw (eq-eqb (size % body g) 0 none, le-ltb (size / body g) (head_slots g) far) at room_is in omega (arith, room, none))
+      apart)
+      (λ (used : size % body g ≡ 0 → ⊥).
+      let room : length bytes ≤ body g - size % body g = rw (ne_eqb (size % body g) 0 used) at room_is in
+      let less : size % body g < body g = (let big = (sizes g).page in omega (arith, big)) in
+      omega (arith, room, less))
+      (cases_eq (size % body g) 0)
 
   pub clear : IsClear g a
   clear = primed_clear g a a id h can.head f (λ r. false) can.prime
@@ -174,7 +192,7 @@ module _ (g : Geometry) (a : List ℕ) (id h size q at end : ℕ) (bytes : List 
   named = named_by g pages can.head (size_of can.head / body g) q (sym (number_of g a a id h can.head f (λ r. false) (size_of can.head / body g) can.prime) ∙ subst (λ (n : ℕ). data_number_of g a id (n / body g) ≡ Some q) can.told fill.number)
 
   fits : size_of can.head % body g + length bytes ≤ body g
-  fits = subst (λ (n : ℕ). n % body g + length bytes ≤ body g) can.told (page_fits g a id h size bytes f can)
+  fits = subst (λ (n : ℕ). n % body g + length bytes ≤ body g) can.told (page_fits g a id h size bytes f can (inl (λ (e : size % body g ≡ 0). let some = fill.used in omega (arith, some, e))))
 
   inside : at + length bytes ≤ g.page
   inside = omega (arith, fits, start, (sizes g).page)
@@ -226,7 +244,7 @@ module _ (g : Geometry) (a : List ℕ) (id h size q at end : ℕ) (bytes : List 
         page_byte g c q k high ∙ torn.outside.after (q * g.page + k) (omega (arith, low, start)) ∙ sym (page_byte g a q k high) ∙ ap (λ (l : List ℕ). slice_index l k) a_page
         ∙ (can.can.ready h can.head can.prime.at can.prime.header).bytes named.z (λ e. omega (arith, e, used)) whole k (omega (arith, low)) high
 
-    ready : Programmed (q * g.page + at) bytes a c → ((k : ℕ) → k < length bytes → slice_index bytes k < 256) → IsReady g a id h size bytes f can c (Grow end)
+    ready : Programmed (q * g.page + at) bytes a c → ((k : ℕ) → k < length bytes → slice_index bytes k < 256) → IsReadyIn g a id h size bytes f can c (Grow end)
     ready done small = record {
       beside = λ r. false;
       z = page_of g c q;
@@ -267,7 +285,7 @@ module _ (g : Geometry) (a : List ℕ) (id h size q at end : ℕ) (bytes : List 
   fill_ends c small done =
       let torn : HalfProgrammed (q * g.page + at) bytes a c = subst (λ (n : List ℕ). HalfProgrammed (q * g.page + at) bytes a n) (sym done) (half_programmed a (q * g.page + at) bytes) in
       let all : Programmed (q * g.page + at) bytes a c = subst (λ (n : List ℕ). Programmed (q * g.page + at) bytes a n) (sym done) (finished-programmed (q * g.page + at) bytes a) in
-      let e = ends g a id h size bytes f can c (Grow end) (ready c torn all small) in
+      let e = ends_in g a id h size bytes f can c (Grow end) (ready c torn all small) in
       record { needs = e.needs; cut = e.cut; done = e.done }
 
 -- the last data page was found

@@ -7,6 +7,8 @@ pub mod LastPage
 pub mod Built
 pub mod DataBeside
 pub mod AfterData
+pub mod PagesLaid
+pub mod LaidEnds
 pub mod AfterName
 pub mod AfterIndex
 pub mod Appending

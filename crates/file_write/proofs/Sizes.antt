@@ -1,6 +1,6 @@
 -- Sizes and page counts of a file that bytes are added to.
-use Rattle.std.proofs.Common.{◌≡◌, ℕ, ◌+◌, ◌-◌, ◌*◌, ◌/◌, ◌%◌, ◌<◌, ◌≤◌, true, refl, sym, ◌∙◌, ap, arith, ⊎_elim, subst}
-use Rattle.std.proofs.Math.Nat.{div-add-mod, mul-le-mul_right}
+use Rattle.std.proofs.Common.{◌≡◌, ℕ, ◌+◌, ◌-◌, ◌*◌, ◌/◌, ◌%◌, ◌<◌, ◌≤◌, min, true, refl, sym, ◌∙◌, ap, arith, ⊎_elim, subst}
+use Rattle.std.proofs.Math.Nat.{div-add-mod, mul-add-div, mul-le-mul_right}
 use Rattle.std.proofs.lemmas.Bool.{cases_lt, lt-ltb, le-ltb}
 use Rattle.geometry.proofs.Bounds.{few_pages, few_usable}
 use Rattle.geometry.specs.declared.geometry.Geometry.{Geometry}
@@ -9,8 +9,9 @@ use Rattle.table_model.specs.Room.{data_pages, index_pages}
 use Rattle.image_model.specs.Places.{is_entry_page}
 use Rattle.image_model.specs.Files.{further}
 use Rattle.image_model.specs.Within.{sizes, page_number}
-use Rattle.renew_laws.proofs.Appended.{pages_of}
+use Rattle.renew_laws.proofs.Appended.{pages_of, ceil-low, ceil-high}
 use Rattle.room_laws.proofs.Totals.{ceil-is}
+use Rattle.file_write.specs.Appends.{pages_most}
 
 -- the number of a page is a word
 pub page_few : (g : Geometry) (p : ℕ) → is_entry_page g p ≡ true → p < 65536
@@ -50,6 +51,49 @@ next_page g m n none some fits =
     let whole : body g * (m / body g) + m % body g ≡ m = div-add-mod m (body g) in
     let long : m + n ≡ body g * (m / body g) + n = omega (arith, whole, none) in
     ap (λ (k : ℕ). ceil k (body g)) long ∙ pages_of (m / body g) n (body g) some fits
+
+-- with as many more as take n it has n more
+pub next_pages : (g : Geometry) (m n : ℕ) → m % body g ≡ 0 → data_pages g (m + n) ≡ m / body g + data_pages g n
+next_pages g m n none =
+    let whole : body g * (m / body g) + m % body g ≡ m = div-add-mod m (body g) in
+    let long : m + n + body g - 1 ≡ body g * (m / body g) + (n + body g - 1) = omega (arith, whole, none, (sizes g).page) in
+    ap (λ (k : ℕ). k / body g) long ∙ mul-add-div (let big = (sizes g).page in omega (arith, big)) (m / body g) (n + body g - 1)
+
+-- so many pages hold them
+pub pages_few : (g : Geometry) (n m : ℕ) → n ≤ m * body g → data_pages g n ≤ m
+pages_few g n m fits =
+    ⊎_elim
+    (λ (more : m < data_pages g n).
+    let high : body g * m < n = ceil-high n (body g) m (omega (arith, (sizes g).page)) more in
+    let turned : body g * m ≡ m * body g = omega arith in
+    absurd (omega (arith, high, turned, fits)))
+    (λ (few : data_pages g n ≤ m). few)
+    (cases_lt m (data_pages g n))
+
+-- those that are put together are named by the header page
+pub near_few : (g : Geometry) (t n : ℕ) → t < head_slots g → n ≤ pages_most g t * body g → (data_pages g n ≤ 16) × (t + data_pages g n ≤ head_slots g)
+near_few g t n near fits =
+    let most : pages_most g t ≡ min (head_slots g - t) 16 = rw (lt-ltb t (head_slots g) near) refl in
+    let few = pages_few g n (pages_most g t) fits in
+    (omega (arith, few, most), omega (arith, few, most, near))
+
+-- and one that isn't is put alone
+pub far_fits : (g : Geometry) (t n : ℕ) → head_slots g ≤ t → n ≤ pages_most g t * body g → n ≤ body g
+far_fits g t n far fits =
+    let one : n ≤ 1 * body g = rw (le-ltb t (head_slots g) far) at fits in
+    omega (arith, one)
+
+-- some bytes take one
+pub some_pages : (g : Geometry) (n : ℕ) → 0 < n → 1 ≤ data_pages g n
+some_pages g n some =
+    let low : n ≤ body g * data_pages g n = ceil-low n (body g) (omega (arith, (sizes g).page)) in
+    ⊎_elim
+    (λ (none : data_pages g n < 1).
+    let zero_of : data_pages g n ≡ 0 = omega (arith, none) in
+    let product : body g * data_pages g n ≡ 0 = ap (λ (k : ℕ). body g * k) zero_of ∙ (let nothing : body g * 0 ≡ 0 = omega arith in nothing) in
+    absurd (omega (arith, low, product, some)))
+    (λ (one : 1 ≤ data_pages g n). one)
+    (cases_lt (data_pages g n) 1)
 
 -- ---- further index pages
 

@@ -1,5 +1,5 @@
 -- What an append asks of an image, and what it leaves.
-use Rattle.std.specs.Prelude.{◌≡◌, ℕ, ◌+◌, ◌-◌, ◌*◌, ◌/◌, ◌%◌, ◌<◌, ◌≤◌, List, length, true, false, ◌==◌, ◌&&◌, nat_le, Option, Some, None, if◌then◌else◌}
+use Rattle.std.specs.Prelude.{◌≡◌, ℕ, ◌+◌, ◌-◌, ◌*◌, ◌/◌, ◌%◌, ◌<◌, ◌≤◌, List, length, true, false, ◌==◌, ◌&&◌, nat_le, nat_lt, min, Option, Some, None, if◌then◌else◌}
 use Rattle.std.specs.Prelude.{slice_index}
 use Rattle.std.specs.Int.{to_le_bytes, w16}
 use Rattle.geometry.specs.declared.geometry.Geometry.{Geometry}
@@ -27,16 +27,23 @@ use Rattle.page_renew.specs.PageSteps.{StepCut, StepDone}
 abbrev pub index_needed : Geometry → ℕ → ℕ
 index_needed g size = if (size % body g == 0) && nat_le (head_slots g) (size / body g) && ((size / body g - head_slots g) % span_slots g == 0) then 2 else 1
 
--- The image is tidy, its table has this file under the id, and its tail is ready; some bytes, that end in the data page in which
--- they begin, leave it no more data pages than the volume has, and the pages for them are to be had.
+-- how many data pages from a span on are put together at most: the header page has their entries, and one that it doesn't name is put alone
+abbrev pub pages_most : Geometry → ℕ → ℕ
+pages_most g t = if nat_lt t (head_slots g) then min (head_slots g - t) 16 else 1
+
+-- how many bytes one page step adds to a file of that size at most
+abbrev pub append_room : Geometry → ℕ → ℕ
+append_room g size = if size % body g == 0 then pages_most g (size / body g) * body g else body g - size % body g
+
+-- The image is tidy, its table has this file under the id, and its tail is ready; some bytes, that one page step can add, leave it no more data pages than the volume has, and the pages for them are to be had.
 pub record CanAppend (g : Geometry) (image : List ℕ) (id : ℕ) (bytes : List ℕ) (f : File) : Type 0 where
   pub tidy : IsTidy g image
   pub there : file_of id (table_of g image) ≡ Some f
   pub ready : IsTailReady g image id
   pub some : 0 < length bytes
-  pub one_page : length f.bytes % body g + length bytes ≤ body g
+  pub fits : length bytes ≤ append_room g (length f.bytes)
   pub few : data_pages g (length f.bytes + length bytes) ≤ usable g
-  pub had : are_had g image (index_needed g (length f.bytes)) 1 ≡ true
+  pub had : are_had g image (index_needed g (length f.bytes)) (data_pages g (length bytes)) ≡ true
 
 -- Page h is its header page, and tells this size.
 pub record CanAppendAt (g : Geometry) (image : List ℕ) (id h size : ℕ) (bytes : List ℕ) (f : File) : Type 0 where

@@ -1,21 +1,22 @@
 // Bytes added at the end of a file.
-ghost use Rattle.std.specs.Prelude.{◌≡◌, ◌≢◌, ◌+◌, ◌-◌, ◌/◌, ◌%◌, ◌<◌, ◌≤◌, IfSome, None, length};
+ghost use Rattle.std.specs.Prelude.{◌≡◌, ◌≢◌, ◌+◌, ◌-◌, ◌*◌, ◌/◌, ◌%◌, ◌<◌, ◌≤◌, IfSome, None, length};
 ghost use Rattle.geometry.specs.Numbers.{body, head_slots, span_slots};
 ghost use Rattle.flash_view.specs.Places.{IsEntryPage};
 ghost use Rattle.flash_view.specs.Steps.{Stepped, stopped};
 ghost use Rattle.table_model.specs.Table.{File};
-ghost use Rattle.file_write.specs.Appends.{appending_at, appending};
+ghost use Rattle.file_write.specs.Appends.{appending_at, appending, pages_most, append_room as the_append_room};
 
-use crate::beside::add_data;
+use crate::batches::{BATCH, add_pages, append_room};
 use crate::create::missing;
 use crate::filling::append_inside;
 use crate::further::{append_first, append_there, find_slot};
 use flash_view::{StepErr, View};
 use geometry::Geometry;
 use nor_core::{Nor, NorState};
+use page_layout::data_pages;
 use page_renew::{Edit, Found, find_home, renew_from};
 
-// Adds bytes to a file whose header page has the entry of the new data page.
+// Adds bytes to a file whose header page has the entries of the new data pages.
 pub(crate) fn append_near<N: Nor>(
     v: &mut View<'_, N>,
     id: u16,
@@ -26,16 +27,20 @@ pub(crate) fn append_near<N: Nor>(
 ) -> Result<(), StepErr>
     requires header { IsEntryPage v.old.geometry found.header }
     requires id { (1 ≤ id) × (id ≤ 0x7FFE) }
-    requires fits { length from.now ≤ body v.old.geometry }
+    requires some { 0 < length from.now }
+    requires fits { length from.now ≤ pages_most v.old.geometry span * body v.old.geometry }
     requires end { (end ≡ found.size + length from.now) × (end < 0xFFFFFFFF) }
     requires whole { found.size % body v.old.geometry ≡ 0 }
     requires span { span ≡ found.size / body v.old.geometry }
     requires near { span < head_slots v.old.geometry }
     ensures step { (f : File) → Stepped stopped v.old v.new result (appending_at id found.header found.size from.now f) }
-    ensures few { N.device_writes v.new.nor.now ≤ N.device_writes v.old.nor.now + 10 }
+    ensures few { N.device_writes v.new.nor.now ≤ N.device_writes v.old.nor.now + 70 }
 {
-    let page = add_data(v, id, span, from)?;
-    renew_from(v, id, found.header, Edit::GrowBy { size: end, page })
+    let mut room = [0u16; BATCH];
+    let count = data_pages(&v.geometry, from.len() as u32) as usize;
+    let pages = &mut room[..count];
+    add_pages(v, id, span, from, pages)?;
+    renew_from(v, id, found.header, Edit::GrowBy { size: end, pages })
 }
 
 // Adds bytes to a file whose new data page is in a further index page, but not the first of one.
@@ -74,11 +79,12 @@ fn append_new<N: Nor>(
 ) -> Result<(), StepErr>
     requires header { IsEntryPage v.old.geometry found.header }
     requires id { (1 ≤ id) × (id ≤ 0x7FFE) }
-    requires fits { length from.now ≤ body v.old.geometry }
+    requires some { 0 < length from.now }
+    requires fits { length from.now ≤ pages_most v.old.geometry (found.size / body v.old.geometry) * body v.old.geometry }
     requires end { (end ≡ found.size + length from.now) × (end < 0xFFFFFFFF) }
     requires whole { found.size % body v.old.geometry ≡ 0 }
     ensures step { (f : File) → Stepped stopped v.old v.new result (appending_at id found.header found.size from.now f) }
-    ensures few { N.device_writes v.new.nor.now ≤ N.device_writes v.old.nor.now + 14 }
+    ensures few { N.device_writes v.new.nor.now ≤ N.device_writes v.old.nor.now + 70 }
 {
     let g = v.geometry;
     let span = found.size / g.body();
@@ -94,14 +100,13 @@ fn append_new<N: Nor>(
     append_far(v, id, found, span as u16, end, from)
 }
 
-// The size of a file with so many bytes more, where these are some, end in the data page in which they begin, and leave a
-// size that a header page can tell.
+// The size of a file with so many bytes more, where these are some, one page step can add them, and they leave a size that a
+// header page can tell.
 fn end_of(g: &Geometry, size: u32, more: usize) -> Option<u32>
-    ensures some { IfSome result (λ end. (end ≡ size + more) × (end < 0xFFFFFFFF) × (0 < more) × (size % body g.now + more ≤ body g.now)) }
-    ensures all { 0 < more → size % body g.now + more ≤ body g.now → size + more < 0xFFFFFFFF → result ≢ None }
+    ensures some { IfSome result (λ end. (end ≡ size + more) × (end < 0xFFFFFFFF) × (0 < more) × (more ≤ the_append_room g.now size)) }
+    ensures all { 0 < more → more ≤ the_append_room g.now size → size + more < 0xFFFFFFFF → result ≢ None }
 {
-    let room = g.body() - size % g.body();
-    if more == 0 || more > room as usize {
+    if more == 0 || more > append_room(g, size) as usize {
         return None;
     }
     let end = u64::from(size) + more as u64;
@@ -121,7 +126,7 @@ fn append_found<N: Nor>(
     requires header { IsEntryPage v.old.geometry found.header }
     requires id { (1 ≤ id) × (id ≤ 0x7FFE) }
     ensures step { (f : File) → Stepped stopped v.old v.new result (appending_at id found.header found.size from.now f) }
-    ensures few { N.device_writes v.new.nor.now ≤ N.device_writes v.old.nor.now + 14 }
+    ensures few { N.device_writes v.new.nor.now ≤ N.device_writes v.old.nor.now + 70 }
 {
     let Some(end) = end_of(&v.geometry, found.size, from.len()) else {
         return Err(StepErr::Damaged(missing(id)));
@@ -133,14 +138,13 @@ fn append_found<N: Nor>(
     }
 }
 
-/// Adds bytes at the end of a file, inside one data page, in one page step: at a cut they are there or not, a reserve that
-/// was there is there, and no block is made fresh. The image is to be tidy and the file's tail ready, with a data page to be
-/// had, and an index page or, where the new data page is the first of a further index page, two; the bytes are to be some,
-/// and to end in the data page in which they begin. Where that holds, a fault of the device is the one error. It takes
-/// fourteen programs at most.
+/// Adds bytes at the end of a file in one page step: at a cut they are all there or none is, a reserve that was there is there,
+/// and no block is made fresh. The image is to be tidy and the file's tail ready, with the data pages of the bytes to be had, and
+/// an index page or, where the new data page is the first of a further index page, two; the bytes are to be some, and no more
+/// than `append_room` tells. Where that holds, a fault of the device is the one error. It takes seventy programs at most.
 pub fn append_step<N: Nor>(v: &mut View<'_, N>, id: u16, from: &[u8]) -> Result<(), StepErr>
     ensures step { (f : File) → Stepped stopped v.old v.new result (appending id from.now f) }
-    ensures few { N.device_writes v.new.nor.now ≤ N.device_writes v.old.nor.now + 14 }
+    ensures few { N.device_writes v.new.nor.now ≤ N.device_writes v.old.nor.now + 70 }
 {
     let Some(found) = find_home(v, id)? else {
         return Err(StepErr::Damaged(missing(id)));

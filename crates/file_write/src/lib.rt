@@ -2,6 +2,7 @@
 #![tactic(auto)]
 
 mod append;
+mod batches;
 mod beside;
 mod building;
 mod create;
@@ -14,6 +15,7 @@ mod seeking;
 mod tails;
 
 pub use append::append_step;
+pub use batches::append_room;
 pub use create::create_step;
 pub use overwriting::overwrite_step;
 pub use readying::ready_tail;

@@ -23,10 +23,9 @@ use Rattle.image_laws.proofs.Judge.{found_from, index_passes}
 use Rattle.image_laws.proofs.Reindexed.{judged-parts}
 use Rattle.image_laws.proofs.Serving.{ceil-mono}
 use Rattle.image_laws.proofs.TidySteps.{tidy-is_tidy}
-use Rattle.renew_laws.specs.Append.{Appends}
 use Rattle.renew_laws.specs.Leads.{SameSpans}
 use Rattle.renew_laws.specs.Primed.{Primed}
-use Rattle.renew_laws.proofs.Appended.{appended-is_written}
+use Rattle.renew_laws.proofs.Appended.{appended-is_written, one-page_appends, many-pages_append}
 use Rattle.renew_laws.proofs.Leading.{renamed-leads}
 use Rattle.renew_laws.proofs.PrimeRenew.{primed-renews}
 use Rattle.renew_laws.proofs.RecopyCuts.{unused-name}
@@ -34,10 +33,11 @@ use Rattle.renew_laws.proofs.RenewTidy.{rename-tidies}
 use Rattle.renew_laws.proofs.Truncating.{truncated-leads}
 use Rattle.page_renew.specs.declared.edits.Edit.{Edit}
 use Rattle.page_renew.specs.declared.edits.Edit.TheVariants.{Name, Meta, Cut, Grow, GrowBy}
-use Rattle.page_renew.specs.Edits.{edited_size, edited_name, edited_meta, IsEdited, TakesNext}
-use Rattle.page_renew.specs.EditLaws.{edited_file, AddsNone, Adds, EditSays, EditTidies, Grows, GrowSays, GrowTidies, EditKeepsEntries, EditNamesNext}
+use Rattle.page_renew.specs.Edits.{cut_at, header_in, edited_size, edited_name, edited_meta, IsEdited, TakesNext}
+use Rattle.page_renew.specs.EditLaws.{edited_file, AddsNone, Adds, EditSays, EditTidies, Grows, GrowsInOne, GrowsInMany, GrowSays, GrowTidies, EditKeepsEntries, EditNamesNext}
 use Rattle.page_renew.specs.Renewals.{CanSay, EditDone}
 use Rattle.page_renew.proofs.Homes.{index_some}
+use Rattle.page_renew.proofs.Says.{named_inside}
 use Rattle.page_renew.proofs.Trimmed.{edited_trims}
 
 -- ---- page numbers
@@ -48,16 +48,21 @@ word_kept g x y (Name name) edited t low later below = edited.entries t below �
 word_kept g x y (Meta meta) edited t low later below = edited.entries t below ∙ rw (lt-ltb t (min (data_pages g (size_of x)) (data_pages g (size_of x))) (omega arith)) refl
 word_kept g x y (Cut size) edited t low later below = edited.entries t below ∙ rw (lt-ltb t (min (data_pages g (size_of x)) (data_pages g size)) (omega arith)) refl
 word_kept g x y (Grow size) edited t low later below = edited.entries t below ∙ rw (lt-ltb t (min (data_pages g (size_of x)) (data_pages g size)) (omega arith)) refl
-word_kept g x y (GrowBy size page) edited t low later below =
-    edited.entries t below ∙ rw (ne_eqb t (data_pages g (size_of x)) (λ e. omega (arith, e, low))) (rw (lt-ltb t (min (data_pages g (size_of x)) (data_pages g size)) (omega arith)) refl)
+word_kept g x y (GrowBy size pages) edited t low later below =
+    edited.entries t below ∙ rw (lt-ltb t (data_pages g (size_of x)) low, lt-ltb t (min (data_pages g (size_of x)) (data_pages g size)) (omega arith)) refl
 
 pub keeps-entries : (g : Geometry) → EditKeepsEntries g
 keeps-entries g x y edit edited t low later below = rw (lt-ltb t (head_slots g) below) (word_kept g x y edit edited t low later below)
 
 pub names-next : (g : Geometry) → EditNamesNext g
-names-next g x y size page edited below =
-    let n = data_pages g (size_of x) in
-    rw (lt-ltb (data_pages g (size_of x)) (head_slots g) below) (edited.entries (data_pages g (size_of x)) below ∙ rw (eq-eqb (data_pages g (size_of x)) (data_pages g (size_of x)) refl) refl)
+names-next g x y (GrowBy size named) pages same edited i few below =
+    let place : data_pages g (size_of x) + i - data_pages g (size_of x) ≡ i = omega arith in
+    let count : length named.now ≡ length pages = ap (λ (l : List ℕ). length l) same in
+    rw (lt-ltb (data_pages g (size_of x) + i) (head_slots g) below)
+    (edited.entries (data_pages g (size_of x) + i) below
+    ∙ named_inside (data_pages g (size_of x)) named.now (cut_at (min (data_pages g (size_of x)) (data_pages g size)) (header_in g x)).entry (data_pages g (size_of x) + i) (omega arith) (omega (arith, few, count))
+    ∙ ap (λ (k : ℕ). slice_index named.now k) place ∙ ap (λ (l : List ℕ). slice_index l i) same)
+names-next g x y _ pages same edited i few below = absurd same
 
 same_spans : (g : Geometry) (x y : List ℕ) (edit : Edit) → IsEdited g x edit y → edited_size edit (size_of x) ≡ size_of x → SameSpans g x y
 same_spans g x y edit edited same = record {
@@ -142,7 +147,7 @@ module _ (g : Geometry) (a b : List ℕ) (id h : ℕ) (head : List ℕ) (f : Fil
       fewer : (size t : ℕ) → size ≤ size_of head → t < data_pages g size → t < data_pages g (size_of head)
       fewer size t less below = let most = ceil-mono size (size_of head) (g.page - 5) (omega (arith, (sizes g).page)) less in omega (arith, most, below)
   says (Grow size) none = absurd none
-  says (GrowBy size page) none = absurd none
+  says (GrowBy size pages) none = absurd none
 
 pub edit-says : (g : Geometry) → EditSays g
 edit-says g a b id h head f beside edit prime none = says g a b id h head f beside prime edit none
@@ -173,29 +178,49 @@ same_name (Name now) name none = absurd none
 same_name (Meta meta) name none = absurd none
 same_name (Cut size) name none = absurd none
 same_name (Grow size) name any = refl
-same_name (GrowBy size page) name any = refl
+same_name (GrowBy size pages) name any = refl
 
 same_meta : (edit : Edit) (meta : List ℕ) → Adds edit → edited_meta edit meta ≡ meta
 same_meta (Name name) meta none = absurd none
 same_meta (Meta now) meta none = absurd none
 same_meta (Cut size) meta none = absurd none
 same_meta (Grow size) meta any = refl
-same_meta (GrowBy size page) meta any = refl
+same_meta (GrowBy size pages) meta any = refl
 
-module _ (g : Geometry) (b : List ℕ) (id : ℕ) (head z bytes : List ℕ) (edit : Edit) (grows : Grows g b id head z bytes edit) (y : List ℕ) (edited : IsEdited g head edit y) where
-  more : (t : ℕ) → t < data_pages g (size_of head) → t < data_pages g (edited_size edit (size_of head))
-  more t low = let longer = grows.size in let most = ceil-mono (size_of head) (edited_size edit (size_of head)) (g.page - 5) (omega (arith, (sizes g).page)) (omega (arith, longer)) in omega (arith, most, low)
+-- an edit to a longer file keeps the entries of the old one
+words_kept : (g : Geometry) (head y : List ℕ) (edit : Edit) (n : ℕ) → edited_size edit (size_of head) ≡ size_of head + n → IsEdited g head edit y → (t : ℕ) → t < data_pages g (size_of head) → t < head_slots g → word_at y (45 + g.meta + 2 * t) ≡ word_at head (45 + g.meta + 2 * t)
+words_kept g head y edit n longer edited t low below =
+    let most = ceil-mono (size_of head) (edited_size edit (size_of head)) (g.page - 5) (omega (arith, (sizes g).page)) (omega (arith, longer)) in
+    word_kept g head y edit edited t low (omega (arith, most, low)) below
 
-  appends : Appends g (own (live_at g b) id) head y bytes z
-  appends = record {
-    some = grows.some;
-    fits = grows.fits;
-    size = edited.size ∙ grows.size;
-    words = λ t low below. word_kept g head y edit edited t low (more t low) below;
-    page = grows.page y edited;
-    holds = grows.holds;
-  }
+pub grows-in_one : (g : Geometry) → GrowsInOne g
+grows-in_one g a b id h head z bytes f beside edit prime grows = record {
+  adds = grows.adds;
+  takes = grows.takes;
+  appends = λ y edited. one-page_appends g (own (live_at g b) id) head y bytes z (lengths g a b id h head f beside prime) (record {
+        some = grows.some;
+        fits = grows.fits;
+        size = edited.size ∙ grows.size;
+        words = words_kept g head y edit (length bytes) grows.size edited;
+        page = grows.page y edited;
+        holds = grows.holds;
+      });
+}
 
+pub grows-in_many : (g : Geometry) → GrowsInMany g
+grows-in_many g a b id h head bytes f beside edit prime grows = record {
+  adds = grows.adds;
+  takes = grows.takes;
+  appends = λ y edited. many-pages_append g (own (live_at g b) id) head y bytes (lengths g a b id h head f beside prime) (record {
+        some = grows.some;
+        whole = grows.whole;
+        size = edited.size ∙ grows.size;
+        words = words_kept g head y edit (length bytes) grows.size edited;
+        pages_are = grows.pages_are y edited;
+      });
+}
+
+module _ (g : Geometry) (b : List ℕ) (id : ℕ) (head bytes : List ℕ) (edit : Edit) (grows : Grows g b id head bytes edit) (y : List ℕ) (edited : IsEdited g head edit y) where
   name_stays : name_of y ≡ name_of head
   name_stays = edited.name ∙ same_name edit (name_of head) grows.adds
 
@@ -203,16 +228,16 @@ module _ (g : Geometry) (b : List ℕ) (id : ℕ) (head z bytes : List ℕ) (edi
   meta_stays = edited.meta ∙ same_meta edit (slice_range head 45 (45 + g.meta)) grows.adds
 
 pub grow-says : (g : Geometry) → GrowSays g
-grow-says g a b id h head z bytes f beside edit prime grows =
+grow-says g a b id h head bytes f beside edit prime grows =
     leads_to g a b id h head f beside prime edit (written (length f.bytes) bytes f) grows.takes
-    (λ y edited. appended-is_written g (own (live_at g b) id) id head y bytes z f (lengths g a b id h head f beside prime) prime.file
-    (appends g b id head z bytes edit grows y edited) (name_stays g b id head z bytes edit grows y edited) edited.kind (meta_stays g b id head z bytes edit grows y edited))
+    (λ y edited. appended-is_written g (own (live_at g b) id) id head y bytes f (lengths g a b id h head f beside prime) prime.file
+    (grows.appends y edited) (name_stays g b id head bytes edit grows y edited) edited.kind (meta_stays g b id head bytes edit grows y edited))
     (unused g a b id h head f beside prime)
 
 pub grow-tidies : (g : Geometry) → GrowTidies g
-grow-tidies g a b c id h head z bytes f f' beside edit prime grows serving done =
+grow-tidies g a b c id h head bytes f f' beside edit prime grows serving done =
     let w = renewed_at g b c id h head f f' beside edit prime done in
     let edited : IsEdited g head edit done.y = rw w.1 at done.edited in
-    let law = primed-renews g a b id h done.to head done.y bytes z f beside prime done.renews.inside done.renews.kind done.renews.leads.is_head
-    (appends g b id head z bytes edit grows done.y edited) (name_stays g b id head z bytes edit grows done.y edited) edited.kind (meta_stays g b id head z bytes edit grows done.y edited) (serving done.y edited) in
+    let law = primed-renews g a b id h done.to head done.y bytes f beside prime done.renews.inside done.renews.kind done.renews.leads.is_head
+    (grows.appends done.y edited) (name_stays g b id head bytes edit grows done.y edited) edited.kind (meta_stays g b id head bytes edit grows done.y edited) (serving done.y edited) in
     law.2 c (rw w.0 at done.replaced)

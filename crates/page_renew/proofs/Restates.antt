@@ -58,7 +58,7 @@ takes_none g (Name name) size kind = tt
 takes_none g (Meta meta) size kind = tt
 takes_none g (Cut now) size kind = tt
 takes_none g (Grow now) size kind = tt
-takes_none g (GrowBy now page) size kind = absurd (cc)
+takes_none g (GrowBy now pages) size kind = absurd (cc)
 
 module _ (g : Geometry) (a : List ℕ) (id : ℕ) (edit : Edit) (f : File) (is : IsImage g a) (can : CanRestate g a id edit f) where
   h : HasHead g a id f

@@ -1,6 +1,7 @@
 -- What a header page says once one of its fields is written.
-use Rattle.std.proofs.Common.{◌≡◌, ◌≢◌, ℕ, ◌+◌, ◌*◌, ◌<◌, ◌≤◌, ◌⊎◌, List, length, min, slice_index, slice_range, ◌==◌, Some, refl, ◌∙◌, arith, ⊎_elim, inl, inr}
+use Rattle.std.proofs.Common.{◌≡◌, ◌≢◌, ℕ, ◌+◌, ◌*◌, ◌<◌, ◌≤◌, ◌⊎◌, List, length, take, min, ◌-◌, slice_index, slice_range, ◌==◌, Some, ap, refl, sym, subst, ◌∙◌, arith, ⊎_elim, inl, inr}
 use Rattle.std.specs.Prelude.{nat_lt, if◌then◌else◌}
+use Rattle.std.proofs.lemmas.List.{get_or-take, length-take-le, take_all}
 use Rattle.std.proofs.lemmas.Bool.{cases_eq, cases_lt, lt-ltb, le-ltb, ne_eqb, eq-eqb}
 use Rattle.geometry.specs.declared.geometry.Geometry.{Geometry}
 use Rattle.geometry.specs.Numbers.{head_slots}
@@ -11,7 +12,7 @@ use Rattle.image_model.specs.Headers.{size_of, name_of}
 use Rattle.page_renew.specs.Copies.{kept_of, IsCopy}
 use Rattle.page_renew.specs.declared.edits.Edit.{Edit}
 use Rattle.page_renew.specs.declared.edits.Edit.TheVariants.{Cut, Grow}
-use Rattle.page_renew.specs.Edits.{Header, header_in, Says, cut_at, edited, IsNamed}
+use Rattle.page_renew.specs.Edits.{Header, header_in, Says, cut_at, edited, IsNamed, named_from, naming}
 
 module _ (g : Geometry) (h : Header) (old new : List ℕ) (says : Says g h old) where
   size_same : (at count : ℕ) → SameOutside at count old new → (at + count ≤ 8) ⊎ (12 ≤ at) → size_of new ≡ size_of old
@@ -102,6 +103,20 @@ module _ (g : Geometry) (h : Header) (old new : List ℕ) (says : Says g h old) 
           (λ (more : t ≤ span). inr (omega (arith, more, there)))
           (cases_lt span t)
 
+  -- the same where the page numbers are those
+  pub says_entries : (entry : ℕ → ℕ) → ((t : ℕ) → h.entry t ≡ entry t) →
+      Says g (record { id = h.id; span = h.span; kind = h.kind; size = h.size; name = h.name; meta = h.meta; entry = entry }) old
+  says_entries entry same = record {
+    len = says.len;
+    id = says.id;
+    span = says.span;
+    kind = says.kind;
+    size = says.size;
+    name = says.name;
+    meta = says.meta;
+    entries = λ t below. says.entries t below ∙ same t;
+  }
+
   -- other flags
   pub says_flags : SameOutside 4 1 old new → Says g h new
   says_flags same = record {
@@ -114,6 +129,64 @@ module _ (g : Geometry) (h : Header) (old new : List ℕ) (says : Says g h old) 
     meta = range_stays 4 1 45 g.meta old new same (inl (omega arith)) ∙ says.meta;
     entries = λ t below. word_stays 4 1 (45 + g.meta + 2 * t) old new same (inl (omega arith)) ∙ says.entries t below;
   }
+
+-- ---- page numbers from a span on
+
+pub named_inside : (span : ℕ) (pages : List ℕ) (entry : ℕ → ℕ) (t : ℕ) → span ≤ t → t < span + length pages → named_from span pages entry t ≡ slice_index pages (t - span)
+named_inside span pages entry t low high = rw (le-ltb t span low, lt-ltb t (span + length pages) high) refl
+
+pub named_before : (span : ℕ) (pages : List ℕ) (entry : ℕ → ℕ) (t : ℕ) → t < span → named_from span pages entry t ≡ entry t
+named_before span pages entry t less = rw (lt-ltb t span less) refl
+
+pub named_behind : (span : ℕ) (pages : List ℕ) (entry : ℕ → ℕ) (t : ℕ) → span + length pages ≤ t → named_from span pages entry t ≡ entry t
+named_behind span pages entry t past = rw (le-ltb t span (omega (arith, past)), le-ltb t (span + length pages) past) refl
+
+-- one more of them
+module _ (span : ℕ) (pages : List ℕ) (entry : ℕ → ℕ) (i : ℕ) (inside : i < length pages) where
+  short : length (take i pages) ≡ i
+  short = length-take-le i pages (omega (arith, inside))
+
+  longer : length (take (i + 1) pages) ≡ i + 1
+  longer = length-take-le (i + 1) pages (omega (arith, inside))
+
+  pub one_more : (t : ℕ) → (if t == span + i then slice_index pages i else named_from span (take i pages) entry t) ≡ named_from span (take (i + 1) pages) entry t
+  one_more t =
+      ⊎_elim
+      (λ (here : t ≡ span + i).
+      let at : t - span ≡ i = omega (arith, here) in
+      rw (eq-eqb t (span + i) here)
+      (sym (named_inside span (take (i + 1) pages) entry t (omega (arith, here)) (omega (arith, here, longer)) ∙ get_or-take (i + 1) pages (t - span) 0 (omega (arith, at)) ∙ ap (λ (k : ℕ). slice_index pages k) at)))
+      (λ (there : t ≡ span + i → ⊥). rw (ne_eqb t (span + i) there) (⊎_elim
+      (λ (before : t < span). named_before span (take i pages) entry t before ∙ sym (named_before span (take (i + 1) pages) entry t before))
+      (λ (from : span ≤ t). ⊎_elim
+      (λ (low : t < span + i). named_inside span (take i pages) entry t from (omega (arith, low, short)) ∙ get_or-take i pages (t - span) 0 (omega (arith, low, from))
+      ∙ sym (named_inside span (take (i + 1) pages) entry t from (omega (arith, low, longer)) ∙ get_or-take (i + 1) pages (t - span) 0 (omega (arith, low, from))))
+      (λ (high : span + i ≤ t). named_behind span (take i pages) entry t (omega (arith, high, short)) ∙ sym (named_behind span (take (i + 1) pages) entry t (omega (arith, high, longer, there))))
+      (cases_lt t (span + i)))
+      (cases_lt t span)))
+      (cases_eq t (span + i))
+
+-- it stays of its length
+pub named_size : (g : Geometry) (span page : ℕ) (old new : List ℕ) → IsNamed g span page old new → length old ≡ g.page → length new ≡ g.page
+named_size g span page old new named len = ⊎_elim
+    (λ (low : span < head_slots g). (named.1 low).1.size ∙ len)
+    (λ (high : head_slots g ≤ span). ap (λ (l : List ℕ). length l) (named.0 high) ∙ len)
+    (cases_lt span (head_slots g))
+
+-- a header page with one more of them
+pub says_more : (g : Geometry) (h : Header) (mid new : List ℕ) (span : ℕ) (pages : List ℕ) (i : ℕ) → i < length pages → Says g (naming span (take i pages) h) mid → IsNamed g (span + i) (slice_index pages i) mid new → Says g (naming span (take (i + 1) pages) h) new
+says_more g h mid new span pages i inside says named =
+    says_entries g _ new new (says_entry g (naming span (take i pages) h) mid new says (span + i) (slice_index pages i) named) (named_from span (take (i + 1) pages) h.entry) (one_more span pages h.entry i inside)
+
+-- none, and all of them
+pub says_first : (g : Geometry) (h : Header) (page : List ℕ) (span : ℕ) (pages : List ℕ) → Says g h page → Says g (naming span (take 0 pages) h) page
+says_first g h page span pages says = says_entries g h page page says (named_from span (take 0 pages) h.entry) (λ t. ⊎_elim
+    (λ (less : t < span). sym (named_before span (take 0 pages) h.entry t less))
+    (λ (high : span ≤ t). sym (named_behind span (take 0 pages) h.entry t (let none : length (take 0 pages) ≡ 0 = length-take-le 0 pages (omega arith) in omega (arith, high, none))))
+    (cases_lt t span))
+
+pub says_all : (g : Geometry) (h : Header) (page : List ℕ) (span : ℕ) (pages : List ℕ) (i : ℕ) → length pages ≤ i → Says g (naming span (take i pages) h) page → Says g (naming span pages h) page
+says_all g h page span pages i all says = subst (λ (l : List ℕ). Says g (naming span l h) page) (take_all i pages all) says
 
 -- another size, by the edits that give one
 pub by_size : (g : Geometry) (h : Header) (old new : List ℕ) → Says g h old → (edit : Edit) (count asked size : ℕ) → (edit ≡ Cut asked) ⊎ (edit ≡ Grow asked) → size ≡ asked → SameOutside 8 4 old new → size_of new ≡ size → Says g (edited edit count h) new

@@ -16,8 +16,9 @@ use Rattle.trim_laws.specs.Steps.{IsTrimHead}
 use Rattle.trim_laws.proofs.Pages.{flags_trimmed, named_trimmed}
 use Rattle.page_renew.specs.declared.edits.Edit.{Edit}
 use Rattle.page_renew.specs.declared.edits.Edit.TheVariants.{Name, Meta, Cut, Grow, GrowBy}
-use Rattle.page_renew.specs.Edits.{IsEdited, edited_size, TakesNext}
+use Rattle.page_renew.specs.Edits.{IsEdited, edited_size, TakesNext, cut_at, header_in}
 use Rattle.page_renew.specs.Copies.{kept_of, IsCopy}
+use Rattle.page_renew.proofs.Says.{named_behind}
 
 -- ---- an edited header page
 
@@ -46,11 +47,10 @@ edited_trims g x y (Grow size) takes edited = record {
       let high : data_pages g size ≤ t = subst (λ (s : ℕ). data_pages g s ≤ t) edited.size from in
       edited.entries t below ∙ not_kept g t (min (data_pages g (size_of x)) (data_pages g size)) (word_at x (45 + g.meta + 2 * t)) (omega (arith, high));
 }
-edited_trims g x y (GrowBy size page) takes edited = record {
+edited_trims g x y (GrowBy size pages) takes edited = record {
   free = λ t from below.
       let high : data_pages g size ≤ t = subst (λ (s : ℕ). data_pages g s ≤ t) edited.size from in
-      let other : (t == data_pages g (size_of x)) ≡ false = ne_eqb t (data_pages g (size_of x)) (λ e. omega (arith, e, high, takes)) in
-      edited.entries t below ∙ ap (λ (b : Bool). if b then page else (if nat_lt t (min (data_pages g (size_of x)) (data_pages g size)) then word_at x (45 + g.meta + 2 * t) else 0xFFFF)) other
+      edited.entries t below ∙ named_behind (data_pages g (size_of x)) pages.now (cut_at (min (data_pages g (size_of x)) (data_pages g size)) (header_in g x)).entry t (omega (arith, high, takes))
       ∙ not_kept g t (min (data_pages g (size_of x)) (data_pages g size)) (word_at x (45 + g.meta + 2 * t)) (omega (arith, high));
 }
 

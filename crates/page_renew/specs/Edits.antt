@@ -1,5 +1,5 @@
 -- What a header page says, and what an edit makes of it.
-use Rattle.std.specs.Prelude.{◌≡◌, ◌≢◌, ℕ, ◌+◌, ◌*◌, ◌<◌, ◌≤◌, List, length, All, min, ◌==◌, nat_lt, Option, Some, if◌then◌else◌, take, slice_index}
+use Rattle.std.specs.Prelude.{◌≡◌, ◌≢◌, ℕ, ◌+◌, ◌*◌, ◌<◌, ◌≤◌, List, length, All, min, ◌-◌, nat_lt, Option, Some, if◌then◌else◌, take, slice_index}
 use Rattle.std.specs.Prelude.{slice_range}
 use Rattle.geometry.specs.declared.geometry.Geometry.{Geometry}
 use Rattle.geometry.specs.Numbers.{head_slots}
@@ -55,29 +55,33 @@ edited_size (Name name) size = size
 edited_size (Meta meta) size = size
 edited_size (Cut now) size = now
 edited_size (Grow now) size = now
-edited_size (GrowBy now page) size = now
+edited_size (GrowBy now pages) size = now
 
 abbrev pub edited_name : Edit → Option (List ℕ) → Option (List ℕ)
 edited_name (Name now) name = Some now.now
 edited_name (Meta meta) name = name
 edited_name (Cut size) name = name
 edited_name (Grow size) name = name
-edited_name (GrowBy size page) name = name
+edited_name (GrowBy size pages) name = name
 
 abbrev pub edited_meta : Edit → List ℕ → List ℕ
 edited_meta (Name name) meta = meta
 edited_meta (Meta now) meta = now.now
 edited_meta (Cut size) meta = meta
 edited_meta (Grow size) meta = meta
-edited_meta (GrowBy size page) meta = meta
+edited_meta (GrowBy size pages) meta = meta
 
--- the data page of the span behind the last is named by one of them
+-- page numbers with these from a span on
+abbrev pub named_from : (span : ℕ) → List ℕ → (ℕ → ℕ) → ℕ → ℕ
+named_from span pages entry t = if nat_lt t span then entry t else if nat_lt t (span + length pages) then slice_index pages (t - span) else entry t
+
+-- the data pages of the spans behind the last are named by one of them
 abbrev pub edited_entry : Edit → ℕ → (ℕ → ℕ) → ℕ → ℕ
 edited_entry (Name name) count entry t = entry t
 edited_entry (Meta meta) count entry t = entry t
 edited_entry (Cut size) count entry t = entry t
 edited_entry (Grow size) count entry t = entry t
-edited_entry (GrowBy size page) count entry t = if t == count then page else entry t
+edited_entry (GrowBy size pages) count entry t = named_from count pages.now entry t
 
 abbrev pub edited : Edit → ℕ → Header → Header
 edited edit count h = record {
@@ -90,23 +94,28 @@ edited edit count h = record {
   entry = edited_entry edit count h.entry;
 }
 
+-- the header with these page numbers from a span on
+abbrev pub naming : (span : ℕ) → List ℕ → Header → Header
+naming span pages h = record { id = h.id; span = h.span; kind = h.kind; size = h.size; name = h.name; meta = h.meta; entry = named_from span pages h.entry }
+
 -- Page y says what header page x says, with the edit done; of its page numbers those below both page counts are kept.
 abbrev pub IsEdited : Geometry → (x : List ℕ) → Edit → (y : List ℕ) → Type 0
 IsEdited g x edit y =
     let count = data_pages g (size_of x) in
     Says g (edited edit count (cut_at (min count (data_pages g (edited_size edit (size_of x)))) (header_in g x))) y
 
--- what is asked of an edit: a name of 1 to 31 bytes without a zero, as many meta bytes as the geometry has, a size that isn't the undefined one
+-- what is asked of an edit: a name of 1 to 31 bytes without a zero, as many meta bytes as the geometry has, a size that isn't the undefined one, and
+-- no more page numbers than a span can count
 abbrev pub IsEditable : Geometry → Edit → Type 0
 IsEditable g (Name name) = (1 ≤ length name.now) × (length name.now ≤ 31) × All (λ b. b ≢ 0) name.now
 IsEditable g (Meta meta) = length meta.now ≡ g.meta
 IsEditable g (Cut size) = size < 0xFFFFFFFF
 IsEditable g (Grow size) = size < 0xFFFFFFFF
-IsEditable g (GrowBy size page) = size < 0xFFFFFFFF
+IsEditable g (GrowBy size pages) = (size < 0xFFFFFFFF) × (length pages.now ≤ 0xFFFF)
 
--- An edit that names the data page of the span behind the last gives the file one data page more.
+-- An edit that names data pages of the spans behind the last gives the file as many data pages more.
 abbrev pub TakesNext : Geometry → Edit → (size : ℕ) → Type 0
-TakesNext g (GrowBy now page) size = data_pages g size < data_pages g now
+TakesNext g (GrowBy now pages) size = data_pages g size + length pages.now ≤ data_pages g now
 TakesNext g _ size = Unit {0}
 
 -- In the new bytes the entry of a span names a data page, where a header page has it.

@@ -1,11 +1,11 @@
 // Edits of a header page in the bytes for work.
-ghost use Rattle.std.specs.Prelude.{◌≡◌, ℕ, ◌<◌, ◌≤◌, OnErr, OnOk, length, slice_index};
+ghost use Rattle.std.specs.Prelude.{◌≡◌, ℕ, ◌+◌, ◌^◌, ◌<◌, ◌≤◌, OnErr, OnOk, length, slice_index};
 ghost use Rattle.geometry.specs.Numbers.{page_count};
 ghost use Rattle.nor_core.specs.Count.{Rose};
 ghost use Rattle.nor_core.specs.Flash.{SameOutside};
 ghost use Rattle.image_model.specs.Headers.{size_of};
 ghost use Rattle.flash_view.specs.Same.{OnlyLooks};
-ghost use Rattle.page_renew.specs.Edits.{Header, Says, edited, edited_size, IsEdited, IsEditable, HasEdited, IsNamed};
+ghost use Rattle.page_renew.specs.Edits.{Header, Says, edited, edited_size, IsEdited, IsEditable, HasEdited, IsNamed, naming};
 
 use crate::copying::{copy_index, kept_slots, see_bytes};
 use flash_view::View;
@@ -24,8 +24,8 @@ pub enum Edit<'a> {
     Cut(u32),
     /// More bytes, which stand in data pages already.
     Grow(u32),
-    /// The same, and the data page of the span behind the last.
-    GrowBy { size: u32, page: u16 },
+    /// The same, and the data pages of the spans behind the last.
+    GrowBy { size: u32, pages: &'a [u16] },
 }
 
 // The size in bytes after an edit.
@@ -51,7 +51,7 @@ fn set_size(page: &mut [u8], size: u32)
 }
 
 // Names the data page of a span, where the header page has its entry.
-fn name_next(g: &Geometry, page: &mut [u8], span: u32, target: u16)
+fn name_one(g: &Geometry, page: &mut [u8], span: u32, target: u16)
     requires { length page.old ≡ g.now.page }
     ensures { IsNamed g.now span target page.old page.new }
 {
@@ -60,19 +60,31 @@ fn name_next(g: &Geometry, page: &mut [u8], span: u32, target: u16)
     }
 }
 
+// Names data pages from a span on, as far as the header page has their entries.
+fn name_next(g: &Geometry, page: &mut [u8], span: u32, pages: &[u16])
+    requires page { length page.old ≡ g.now.page }
+    requires span { span + length pages.now < 2 ^ 32 }
+    ensures { (h : Header) → Says g.now h page.old → Says g.now (naming span pages.now h) page.new }
+{
+    for i in 0..pages.len() {
+        name_one(g, page, span + i as u32, pages[i]);
+    }
+}
+
 // Writes into a header page what an edit says anew; the file had `count` data pages.
 fn write_edit(g: &Geometry, page: &mut [u8], edit: Edit<'_>, count: u32)
     requires page { length page.old ≡ g.now.page }
     requires edit { IsEditable g.now edit }
+    requires count { count < 2 ^ 26 }
     ensures { (h : Header) → Says g.now h page.old → Says g.now (edited edit.entry count h) page.new }
 {
     match edit {
         Edit::Name(name) => put_name(page, name),
         Edit::Meta(meta) => put_meta(g, page, meta),
         Edit::Cut(size) | Edit::Grow(size) => set_size(page, size),
-        Edit::GrowBy { size, page: target } => {
+        Edit::GrowBy { size, pages } => {
             set_size(page, size);
-            name_next(g, page, count, target);
+            name_next(g, page, count, pages);
         }
     }
 }

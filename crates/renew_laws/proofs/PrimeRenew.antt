@@ -28,7 +28,7 @@ old_is_head g b id h head is passes =
 
 pub primed-renews : (g : Geometry) → PrimedRenews g
 unfolding has_of
-primed-renews g a b id h p head head' bytes z f beside prime inside kind is_head add named type meta serving =
+primed-renews g a b id h p head head' bytes f beside prime inside kind is_head add named type meta serving =
     let has : has_of g (live_at g b) id ≡ Some (h, Ok f) = found_from g (own (live_at g b) id) id h head prime.at prime.header ∙ ap (λ (r : Result File Damage). Some (h, r)) prime.file in
     let limits = has_of-within g b id h (Ok f) has in
     let lengths : (q : ℕ) (x : List ℕ) → own (live_at g b) id q ≡ Some x → length x ≡ g.page =
@@ -41,7 +41,7 @@ primed-renews g a b id h p head head' bytes z f beside prime inside kind is_head
         is_head = is_head;
         low = limits.0;
         high = limits.1;
-        file = appended-is_written g (own (live_at g b) id) id head head' bytes z f lengths prime.file add named type meta;
+        file = appended-is_written g (own (live_at g b) id) id head head' bytes f lengths prime.file add named type meta;
         undamaged = undamaged;
         unused = unused-name g b id h f undamaged has;
       };
@@ -51,8 +51,8 @@ primed-renews g a b id h p head head' bytes z f beside prime inside kind is_head
       only = prime.only;
     } in (
       start,
-      none-left g b h id head head' beside prime.tidy prime.at prime.header serving (λ r. (appended-serves g (own (live_at g b) id) head head' bytes z add r).0),
+      none-left g b h id head head' beside prime.tidy prime.at prime.header serving (λ r. (appended-serves g (own (live_at g b) id) head head' bytes add r).0),
       λ c all.
-          let w = renewed-tidies g b c p h id head head' (written (length f.bytes) bytes f) beside start prime.at all prime.tidy (λ r e. (prime.mine r e, serving r e)) (λ r. (appended-serves g (own (live_at g b) id) head head' bytes z add r).0) in
+          let w = renewed-tidies g b c p h id head head' (written (length f.bytes) bytes f) beside start prime.at all prime.tidy (λ r e. (prime.mine r e, serving r e)) (λ r. (appended-serves g (own (live_at g b) id) head head' bytes add r).0) in
           (w.0, w.1 ∙ ap (put_file (written (length f.bytes) bytes f)) prime.keeps.table),
     )

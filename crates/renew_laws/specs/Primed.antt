@@ -101,9 +101,9 @@ NameHolds g = (b c : List ℕ) (w t : ℕ) (x asked : List ℕ) → IsImage g b 
 
 -- Then the header page is renewed, and says that the file has these bytes more; no page is left over.
 abbrev pub PrimedRenews : Geometry → Type 0
-PrimedRenews g = (a b : List ℕ) (id h p : ℕ) (head head' bytes z : List ℕ) (f : File) (beside : ℕ → Bool) → Primed g id h head f beside a b →
+PrimedRenews g = (a b : List ℕ) (id h p : ℕ) (head head' bytes : List ℕ) (f : File) (beside : ℕ → Bool) → Primed g id h head f beside a b →
     is_entry_page g p ≡ true → IsOfKind g (live_at g b) p head' →
-    IsHead id head' → Appends g (own (live_at g b) id) head head' bytes z → name_of head' ≡ name_of head → slice_index head' 12 ≡ slice_index head 12 →
+    IsHead id head' → Appends g (own (live_at g b) id) head head' bytes → name_of head' ≡ name_of head → slice_index head' 12 ≡ slice_index head 12 →
     slice_range head' 45 (45 + g.meta) ≡ slice_range head 45 (45 + g.meta) →
     ((r : ℕ) → beside r ≡ true → serves g (own (live_at g b) id) head' r ≡ true) →
     RenewsTo g b p h id head head' (written (length f.bytes) bytes f)

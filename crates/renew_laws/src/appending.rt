@@ -1,5 +1,5 @@
 ghost use Rattle.geometry.specs.declared.geometry.Geometry.{Geometry};
-ghost use Rattle.renew_laws.specs.Append.{AppendingTidies, AppendingIsSound, SpanIsKept, SpanIsNamed, AppendedLeads, AppendedIsWritten, AppendedServes};
+ghost use Rattle.renew_laws.specs.Append.{AppendingTidies, AppendingIsSound, SpanIsKept, SpanIsNamed, AppendedLeads, AppendedIsWritten, AppendedServes, OnePageAppends, ManyPagesAppend};
 ghost use Rattle.renew_laws.specs.Append.{RenewedTidies};
 
 /// Bytes appended inside the last data page leave the image tidy, and so does a header page that all pages of its file serve.
@@ -20,4 +20,6 @@ pub fn appending_leads()
     ensures leads { (g : Geometry) → AppendedLeads g }
     ensures written { (g : Geometry) → AppendedIsWritten g }
     ensures serves { (g : Geometry) → AppendedServes g }
+    ensures one { (g : Geometry) → OnePageAppends g }
+    ensures many { (g : Geometry) → ManyPagesAppend g }
 {}

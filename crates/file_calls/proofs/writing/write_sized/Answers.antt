@@ -1,6 +1,7 @@
 use Rattle.std.proofs.Common.{◌≡◌, length, refl, rules, Err, arith}
 use Rattle.std.proofs.lemmas.Bool.{ltb-true}
 use Rattle.geometry.specs.Numbers.{body}
+use Rattle.file_write.specs.Appends.{append_room}
 use Rattle.flash_view.proofs.Looking.{looks_none}
 use Rattle.flash_view.proofs.Stepped.{looked, ends_as}
 use Rattle.file_calls.proofs.TurnsBy.{turned_none, turned_as, turned_passes}
@@ -26,7 +27,7 @@ returns-in_err-write_part g c = λ f sized.
     let so_far = c.loop-from.invariant in
     let end = c.part_end-to.ensures in
     let is : c.from_residual.result ≡ Err c.in_err-write_part.field-0.0 = search rules in
-    let part = is_part (body c.loop-from.v.geometry) c.args.size c.args.at (length c.args.bytes.now) c.loop-from.from c.part_end-to.result c.in-Some.end so_far.low so_far.end end.behind end.within end.page end.old end.is in
+    let part = is_part (body c.loop-from.v.geometry) (append_room c.loop-from.v.geometry c.loop-from.from) c.args.size c.args.at (length c.args.bytes.now) c.loop-from.from c.part_end-to.result c.in-Some.end so_far.low so_far.end end.behind end.within end.page end.room end.old end.is in
     turned_passes (write_turn c.args.id c.args.at c.loop-from.from c.part_end-to.result c.args.size c.max.result _ c.args.bytes.now f part (let most = c.max.ensures in omega (arith, most)) sized (λ is. ltb-true c.args.size c.loop-from.from is) (so_far.step f sized) c.in_err-write_part.ensures) is
     (λ tells can. record { needs = can; cut = λ d cut. cut })
     (λ tells can n few. few_part _ _ c.args.id (body c.args.v.now.geometry) (length f.bytes) c.args.at (length c.args.bytes.now) c.part_end-to.result n part.within few)
@@ -35,7 +36,7 @@ pub loop-from-preserved : goal.loop-from-preserved
 loop-from-preserved g c =
     let so_far = c.loop-from.invariant in
     let end = c.part_end-to.ensures in
-    let part = is_part (body c.loop-from.v.geometry) c.args.size c.args.at (length c.args.bytes.now) c.loop-from.from c.part_end-to.result c.in-Some.end so_far.low so_far.end end.behind end.within end.page end.old end.is in
+    let part = is_part (body c.loop-from.v.geometry) (append_room c.loop-from.v.geometry c.loop-from.from) c.args.size c.args.at (length c.args.bytes.now) c.loop-from.from c.part_end-to.result c.in-Some.end so_far.low so_far.end end.behind end.within end.page end.room end.old end.is in
     record {
       low = let low = so_far.low in let some = end.behind in omega (arith, low, some);
       high = end.within;

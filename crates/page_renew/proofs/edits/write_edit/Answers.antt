@@ -1,4 +1,4 @@
-use Rattle.page_renew.proofs.Says.{says_name, says_meta, says_size, says_entry, by_size}
+use Rattle.page_renew.proofs.Says.{says_name, says_meta, says_size, by_size}
 use Rattle.page_renew.proofs.edits.write_edit.Goals.{in-Cut, in-Cut-2}
 use Rattle.page_renew.proofs.edits.write_edit.Goals as goal
 
@@ -11,8 +11,8 @@ returns-in-Meta c = λ h says. rw c.in-Meta.is (says_meta c.args.g.now h c.args.
 pub returns-in-GrowBy : goal.returns-in-GrowBy
 returns-in-GrowBy c = λ h says.
     rw c.in-GrowBy.is
-    (says_entry c.args.g.now _ c.set_size.new.page c.name_next.new.page
-    (says_size c.args.g.now h c.args.page.now c.set_size.new.page says c.in-GrowBy.size c.set_size.ensures.others c.set_size.ensures.size) c.args.count c.in-GrowBy.target c.name_next.ensures)
+    (c.name_next.ensures _
+    (says_size c.args.g.now h c.args.page.now c.set_size.new.page says c.in-GrowBy.size c.set_size.ensures.others c.set_size.ensures.size))
 
 pub returns-in-Cut : goal.returns-in-Cut
 returns-in-Cut c = λ h says. elim c.in-Cut-1.branch [

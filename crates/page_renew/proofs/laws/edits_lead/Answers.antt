@@ -1,4 +1,4 @@
-use Rattle.page_renew.proofs.EditsLead.{edit-says, edit-tidies, grow-says, grow-tidies, keeps-entries, names-next}
+use Rattle.page_renew.proofs.EditsLead.{grows-in_one, grows-in_many, edit-says, edit-tidies, grow-says, grow-tidies, keeps-entries, names-next}
 use Rattle.page_renew.proofs.CutLeft.{cut-leaves}
 use Rattle.page_renew.proofs.laws.edits_lead.Goals as goal
 
@@ -22,3 +22,9 @@ returns-clause-cuts c = cut-leaves
 
 pub returns-clause-grown : goal.returns-clause-grown
 returns-clause-grown c = grow-tidies
+
+pub returns-clause-one : goal.returns-clause-one
+returns-clause-one c = grows-in_one
+
+pub returns-clause-many : goal.returns-clause-many
+returns-clause-many c = grows-in_many
