@@ -1,7 +1,9 @@
 -- Cleaning block after block, over plain images.
 use Rattle.std.proofs.Common.{◌≡◌, ℕ, ◌+◌, ◌-◌, ◌<◌, ◌≤◌, ◌^◌, List, [], ◌∷◌, ◌++◌, length, map, Bool, true, false, Some, None, Result, refl, sym, ◌∙◌, subst, arith, length-append}
 use Rattle.std.specs.List.{Contains}
-use Rattle.std.proofs.lemmas.Bool.{le-leb}
+use Rattle.std.specs.Prelude.{nat_le}
+use Rattle.std.proofs.Common.{⊎_elim}
+use Rattle.std.proofs.lemmas.Bool.{le-leb, lt-leb, cases_lt}
 use Rattle.std.proofs.lemmas.Option.{same_Some}
 use Rattle.geometry.specs.declared.geometry.Geometry.{Geometry}
 use Rattle.nor_core.specs.declared.state.NorState.{Ghosts as NorOf}
@@ -12,7 +14,7 @@ use Rattle.image_model.specs.declared.damage.Damage.{Damage}
 use Rattle.image_model.specs.Live.{live_at}
 use Rattle.image_model.specs.Places.{IsImage}
 use Rattle.image_model.specs.Tables.{table_of}
-use Rattle.image_model.specs.Tidy.{IsTidy, HasReserve}
+use Rattle.image_model.specs.Tidy.{IsTidy, free_blocks, HasReserve}
 use Rattle.geometry.specs.Numbers.{entries}
 use Rattle.image_model.specs.Collect.{chosen_block, is_stuck, Swept, are_had, free_where, takes_index, takes_data}
 use Rattle.image_model.specs.Sound.{Keeps}
@@ -31,13 +33,13 @@ use Rattle.room_laws.proofs.ImageMends.{clean_mends, mended_has_reserve}
 use Rattle.room_laws.proofs.Recovering.{mended_recovers, chosen_may_cut}
 use Rattle.room_laws.proofs.Totals.{ceil-le}
 use Rattle.free_search.proofs.FreePages.{some_entries}
-use Rattle.room_laws.proofs.Stops.{reserve_can_clean, measure_is_small, stopped_has_reserve, stopped_has_pages, never_stuck, no_worth_is_packed, unstuck_has_no_worth}
+use Rattle.room_laws.proofs.Stops.{reserve_can_clean, measure_is_small, stopped_has_reserve, stopped_has_no_worth, stopped_has_pages, never_stuck, no_worth_is_packed, unstuck_has_no_worth}
 use Rattle.block_gc.specs.declared.room.Goal.{Goal}
-use Rattle.block_gc.specs.declared.room.Goal.TheVariants.{Pages, Packed}
+use Rattle.block_gc.specs.declared.room.Goal.TheVariants.{Pages, Packed, Free}
 use Rattle.block_gc.specs.Cleanings.{CanCleanBlock, CleanedBlock, cleaning_block}
 use Rattle.block_gc.proofs.CleanedBlocks.{worth_used}
 use Rattle.block_gc.proofs.Replacing.{tidy_keeps}
-use Rattle.block_gc.specs.RoomMade.{CollectCut, SweepsBlock, SweptAlong, SweptTo, NoneIs, Cleanings, CleaningsTo, MadeRoom, IsTight, IsCompact, IsStuck, IsReady, IsMet, StopsAt, Collected, PackedOrStuck, cleaning_chosen, collecting, packing}
+use Rattle.block_gc.specs.RoomMade.{CollectCut, SweepsBlock, SweptAlong, SweptTo, NoneIs, Cleanings, CleaningsTo, MadeRoom, IsTight, IsCompact, IsStuck, IsReady, IsMet, StopsAt, Collected, PackedOrStuck, cleaning_chosen, FreeStops, FreedUp, IfMet, collecting, packing}
 
 -- ---- swept steps
 
@@ -132,7 +134,7 @@ pub none_cut : (g : Geometry) (a : List ℕ) → IsTidy g a → CollectCut g a a
 none_cut g a t = record { keeps = tidy_keeps g a t; mends = λ can. mended_recovers g a (clean_mends g a can) }
 
 -- a tidy image keeps a tidy one with its table
-both_keep : (g : Geometry) (a b : List ℕ) → IsTidy g a → IsTidy g b → table_of g b ≡ table_of g a → Keeps g a b
+pub both_keep : (g : Geometry) (a b : List ℕ) → IsTidy g a → IsTidy g b → table_of g b ≡ table_of g a → Keeps g a b
 both_keep g a b t now table = record {
   sound = record {
     magics = tidy-has_magics g b (λ (r : ℕ). false) ((tidy-is_tidy g b (λ (r : ℕ). false)).0 now);
@@ -332,3 +334,33 @@ idle_then new goal call first second tells t met =
     let reads = first tells t met in
     let same = call.framed.same.geometry in
     reads_then reads (second (reads.told tells) (rw (same, reads.bytes) t) (rw (same, reads.bytes) met))
+
+-- so many blocks are free where collection stops, or all is packed
+pub freed_up : (g : Geometry) (blocks : ℕ) (met : Bool) (a b : List ℕ) → IsImage g a → IsTidy g a → Collected g (Free blocks) met a b → FreedUp g blocks met a b
+freed_up g blocks met a b is t all = record { n = all.n; cleanings = all.cleanings; needed = all.needed; stops = by met all.stops }
+  where
+    by : (m : Bool) → StopsAt g (Free blocks) m b → FreeStops g blocks m a b
+    by true stops = stops
+    by false stops = (
+      ⊎_elim (λ (low : free_blocks g b < blocks). low) (λ (enough : blocks ≤ free_blocks g b). absurd (stops.1 enough)) (cases_lt (free_blocks g b) blocks),
+      stops.0,
+      λ can.
+          let here = all.cleanings.again can in
+          let p = no_worth_is_packed g b all.cleanings.image all.cleanings.tidy (λ block low. stopped_has_no_worth g b block here stops.0 low) in
+          let all' = (blocks-split g b all.cleanings.image).0 in
+          let index = p.index in
+          let pages = p.pages in
+          rw (sym all.cleanings.table) (omega (arith, all', index, pages)),
+    )
+
+-- what is told of that goal by a count of free blocks
+pub free_met : (g : Geometry) (image : List ℕ) (blocks n : ℕ) → n ≡ free_blocks g image → IfMet g image (Free blocks) (nat_le blocks n)
+free_met g image blocks n is = ⊎_elim
+    (λ (few : n < blocks). rw (lt-leb blocks n few) (λ enough. omega (arith, few, is, enough)))
+    (λ (enough : blocks ≤ n). rw (le-leb blocks n enough) (omega (arith, enough, is)))
+    (cases_lt n blocks)
+
+-- two blocks are freed of an image that mends
+pub freed_mended : (g : Geometry) (blocks : ℕ) (met : Bool) (a b : List ℕ) → CanMend g a → blocks ≤ 2 → Collected g (Free blocks) met a b → met ≡ true
+freed_mended g blocks true a b can few all = refl
+freed_mended g blocks false a b can few all = let two = mended_has_reserve g b (all.cleanings.mend can) all.stops.0 in absurd (all.stops.1 (omega (arith, two, few)))

@@ -27,3 +27,6 @@ pub mod EntryTurns
 pub mod Programs
 pub mod PartedPages
 pub mod PartTurns
+mod Freeing
+mod Spared
+mod Swaps

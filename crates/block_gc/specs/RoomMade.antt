@@ -16,7 +16,7 @@ use Rattle.room_laws.specs.Mends.{CanMend}
 use Rattle.room_laws.specs.Recovery.{Recovers}
 use Rattle.flash_view.specs.declared.kinds.StepErr.TheVariants.{DeviceFault}
 use Rattle.block_gc.specs.declared.room.Goal.{Goal}
-use Rattle.block_gc.specs.declared.room.Goal.TheVariants.{Pages, Packed}
+use Rattle.block_gc.specs.declared.room.Goal.TheVariants.{Pages, Packed, Free}
 use Rattle.block_gc.specs.declared.room.RoomErr.{RoomErr}
 use Rattle.block_gc.specs.declared.room.RoomErr.TheVariants.{Step, Tight}
 
@@ -49,6 +49,7 @@ IfReady g image index pages false = IsReady g image index pages → ⊥
 abbrev pub IsMet : Geometry → List ℕ → Goal → Type 0
 IsMet g image (Pages index pages) = IsReady g image index pages
 IsMet g image Packed = ⊥
+IsMet g image (Free blocks) = blocks ≤ free_blocks g image
 
 -- whether that is so
 abbrev pub IfMet : Geometry → List ℕ → Goal → Bool → Type 0
@@ -191,3 +192,20 @@ PackedOrStuck g false was now = IsCompact g was now
 
 abbrev pub packing : Stage Bool
 packing = record { needs = IsTidy; cut = CollectCut; done = λ g was now stuck. PackedOrStuck g stuck was now }
+
+-- So many blocks are free, or fewer are and no block is chosen; then all is packed where the first image could be cleaned, and so many are free as
+-- the pages of the table leave.
+abbrev pub FreeStops : Geometry → (blocks : ℕ) → Bool → (was now : List ℕ) → Type 0
+FreeStops g blocks true was now = blocks ≤ free_blocks g now
+FreeStops g blocks false was now = (free_blocks g now < blocks) × (chosen_block g now ≡ None) × (CanClean g was →
+    free_blocks g now + ceil (index_count g (table_of g was)) (entries g) + ceil (data_count g (table_of g was)) (entries g) ≡ g.blocks)
+
+-- So many cleanings, each where fewer blocks were free, and where they stopped.
+pub record FreedUp (g : Geometry) (blocks : ℕ) (met : Bool) (was now : List ℕ) : Type 0 where
+  pub n : ℕ
+  pub cleanings : Cleanings g n was now
+  pub needed : NoneIs (λ image. blocks ≤ free_blocks g image) cleanings.swept.through
+  pub stops : FreeStops g blocks met was now
+
+abbrev pub freeing : (blocks : ℕ) → Stage Bool
+freeing blocks = record { needs = IsTidy; cut = CollectCut; done = λ g was now met. FreedUp g blocks met was now }

@@ -11,11 +11,15 @@ mod next;
 mod parting;
 mod room;
 mod scores;
+mod spares;
+mod swapping;
 mod totals;
 
 pub use cleaning::clean;
 pub use laws::scores_are_told;
 pub use next::{choose, is_ready, is_stuck};
 pub use parting::part_mixed;
-pub use room::{RoomErr, compact, make_room};
+pub use room::{RoomErr, compact, free_up, make_room};
 pub use scores::score;
+pub use spares::may_move;
+pub use swapping::move_block;

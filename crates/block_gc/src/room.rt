@@ -2,7 +2,7 @@
 ghost use Rattle.std.specs.Prelude.{◌≡◌, ◌≢◌, ◌<◌, ◌≤◌, OnErr, OnOk, IfOk, IfErr, IsErrOf, true, false};
 ghost use Rattle.nor_core.specs.Count.{Rose};
 ghost use Rattle.nor_core.specs.Device.{Changes, OnlyReads};
-ghost use Rattle.image_model.specs.Tidy.{IsTidy};
+ghost use Rattle.image_model.specs.Tidy.{IsTidy, free_blocks};
 ghost use Rattle.trim_laws.specs.Upkeep.{Upkeep};
 ghost use Rattle.flash_view.specs.Same.{IsSameView, OnlyLooks};
 ghost use Rattle.room_laws.specs.Stopping.{CanClean, HasRoomFor};
@@ -10,11 +10,13 @@ ghost use Rattle.room_laws.specs.Mends.{CanMend};
 ghost use Rattle.flash_view.specs.Steps.{Stepped, stopped};
 ghost use Rattle.block_gc.specs.RoomMade.{IsFaultOrTight, UnlessFailed, is_apart_in, IsReady, IsMet, IfMet, CollectCut, MadeRoom, IsTight, IsCompact, IsStuck};
 ghost use Rattle.block_gc.specs.declared.room.RoomErr.{RoomErr};
-ghost use Rattle.block_gc.specs.RoomMade.{cleaning_chosen, turning_to, collecting, packing};
+ghost use Rattle.block_gc.specs.declared.room.Goal.{Goal};
+ghost use Rattle.block_gc.specs.RoomMade.{cleaning_chosen, turning_to, collecting, packing, freeing};
 
 use crate::cleaning::clean;
 use crate::next::{choose, is_ready, is_stuck};
 use flash_view::{StepErr, View};
+use free_search::free_blocks;
 use nor_core::{Failed, Nor, NorState};
 
 /// Why room was not made.
@@ -34,12 +36,25 @@ impl From<StepErr> for RoomErr {
     }
 }
 
-// What blocks are cleaned for: so many index pages and data pages, or that no block is worth cleaning.
+// What blocks are cleaned for: so many index pages and data pages, that no block is worth cleaning, or so many free blocks.
 #[derive(Clone, Copy)]
 enum Goal {
     // So many of each are had, and two blocks are free.
     Pages(u32, u32),
     Packed,
+    // So many blocks are free.
+    Free(u32),
+}
+
+// Whether so many blocks are free.
+#[tactic(auto, using(flash_view::proofs::Looking::looks_then))]
+fn has_free<N: Nor>(v: &mut View<'_, N>, blocks: u32) -> Result<bool, Failed>
+    ensures cause { OnErr result (Rose (N.faults v.old.nor.now) (N.faults v.new.nor.now)) }
+    ensures looks { OnlyLooks v.old v.new }
+    ensures told { N.tells v.old.nor.now → IsTidy v.old.geometry (N.bytes v.old.nor.now) →
+        IfOk result (λ met. IfMet v.old.geometry (N.bytes v.old.nor.now) (Goal.Free blocks) met) }
+{
+    Ok(free_blocks(v)? >= blocks)
 }
 
 // Whether the goal is met.
@@ -53,6 +68,7 @@ fn is_met<N: Nor>(v: &mut View<'_, N>, goal: Goal) -> Result<bool, Failed>
     match goal {
         Goal::Pages(index, data_pages) => is_ready(v, index, data_pages),
         Goal::Packed => Ok(false),
+        Goal::Free(blocks) => has_free(v, blocks),
     }
 }
 
@@ -163,4 +179,15 @@ pub fn compact<N: Nor>(v: &mut View<'_, N>) -> Result<(), RoomErr>
     } else {
         Ok(())
     }
+}
+
+/// Cleans blocks until so many are free, or none is chosen: whether so many are free. Where they are already none is cleaned. A cut leaves the
+/// table as it is, and where the image could be cleaned an uncut check gives two free blocks back. Two are always freed of an image that mends.
+pub fn free_up<N: Nor>(v: &mut View<'_, N>, blocks: u32) -> Result<bool, StepErr>
+    ensures step { Stepped stopped v.old v.new result (freeing blocks) }
+    ensures mended { N.tells v.old.nor.now → CanMend v.old.geometry (N.bytes v.old.nor.now) → blocks ≤ 2 → IfOk result (λ met. met ≡ true) }
+    ensures idle { N.tells v.old.nor.now → IsTidy v.old.geometry (N.bytes v.old.nor.now) → blocks ≤ free_blocks v.old.geometry (N.bytes v.old.nor.now) →
+        OnlyReads N.NorState v.old.nor.now v.new.nor.now }
+{
+    collect(v, Goal::Free(blocks))
 }

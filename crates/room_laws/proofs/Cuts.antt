@@ -7,6 +7,7 @@ use Rattle.room_laws.specs.Volume.{IsVolume, blocks_of, free_of, deleted_of, ind
 use Rattle.room_laws.specs.Bounds.{Bound}
 use Rattle.room_laws.specs.Mending.{NearBound, Opens, Mending, strong, strong_none, near, near_none}
 use Rattle.room_laws.specs.Cut.{CutIndex, Batches, DeadBlock, CutData, CutMends}
+use Rattle.room_laws.specs.TwoFree.{HasSpare}
 use Rattle.room_laws.proofs.Totals.{Seen, is_unused, is_index, is_data, seen, Sums, sums, ceil-le}
 use Rattle.room_laws.proofs.Bounding.{data-size, index-size}
 use Rattle.room_laws.proofs.Measures.{beside-le, if_any-le}
@@ -37,11 +38,11 @@ worth-index c r k worth many = ⊎_elim (λ (h : 0 < c.deleted). h)
     (λ (h : c.index ≤ free_beside (c ∷ r) - c.free). let p = rw k at (if_any-le c.index (if_kind for_index c c.free)) in let h' = rw k at h in absurd (omega (arith, h', p, beside-le r, many)))
     (rw k at worth)
 
-own_kind-free : (k : Kind) (d : Counts) (s : List Counts) → if_kind k d d.free ≡ d.free → free_of k (d ∷ s) ≡ d.free + free_of k s
+pub own_kind-free : (k : Kind) (d : Counts) (s : List Counts) → if_kind k d d.free ≡ d.free → free_of k (d ∷ s) ≡ d.free + free_of k s
 unfolding free_of
 own_kind-free k d s o = omega arith
 
-other_kind-free : (k : Kind) (d : Counts) (s : List Counts) → if_kind k d d.free ≡ 0 → free_of k (d ∷ s) ≡ free_of k s
+pub other_kind-free : (k : Kind) (d : Counts) (s : List Counts) → if_kind k d d.free ≡ 0 → free_of k (d ∷ s) ≡ free_of k s
 unfolding free_of
 other_kind-free k d s o = omega arith
 
@@ -114,9 +115,9 @@ worth-data : (c : Counts) (r : List Counts) → kind_of c ≡ for_data → Worth
 worth-data c r k worth many = let f = own_kind-free for_data c r (rw k refl) in ⊎_elim (λ (h : 0 < c.deleted). h) (λ (h : c.pages ≤ free_of for_data (c ∷ r) - c.free). absurd (omega (arith, f, h, many))) (rw k at worth)
 
 batches : (e : ℕ) (c : Counts) (r : List Counts) (d : Counts) (s : List Counts) → IsVolume e (c ∷ r) → IsVolume e (d ∷ s) → length s ≡ length r →
-    Bound e (c ∷ r) → 2 ≤ blocks_of unused r → Worth (c ∷ r) c → CutData e c r d s → Batches e c r s → Seen e d → Mending e (d ∷ s)
+    Bound e (c ∷ r) → 2 ≤ blocks_of unused r → (free_of for_data r < c.pages → HasSpare c r) → CutData e c r d s → Batches e c r s → Seen e d → Mending e (d ∷ s)
 unfolding blocks_of index_total
-batches e c r d s is is' len bound some worth cut b look =
+batches e c r d s is is' len bound some enough cut b look =
     let x = tail-sums e c r is in
     let y = tail-sums e d s is' in
     let seen-c = head-seen e c r is in
@@ -146,36 +147,40 @@ batches e c r d s is is' len bound some worth cut b look =
           let near' = near-from e (c ∷ r) (d ∷ s) li (omega arith) (omega arith) bound in
           let went = beyond e (pages_total r) (free_of for_data r) (deleted_of for_data r) (blocks_of for_data r) (pages_total s) (free_of for_data s) (deleted_of for_data s) (blocks_of for_data s) x.pages y.pages 0 more (b.takes_data.taken (omega arith)) in
           let left = room-left e (pages_total r) (free_of for_data r) (deleted_of for_data r) (blocks_of for_data r) (pages_total s) (free_of for_data s) (deleted_of for_data s) (blocks_of for_data s) x.pages y.pages more in
-          let dirty : 0 < c.deleted = worth-data c r cut.kind worth (omega (arith, went, b.copies)) in
-          let places : d.pages ≤ free_of for_data s = omega (arith, left, b.batch, dirty, size, cut.pages) in
+          let spare = enough (omega (arith, went, b.copies)) in
+          let places : d.pages ≤ free_of for_data s = omega (arith, left, b.batch, spare.pages, size, cut.pages) in
           let f = own_kind-free for_data d s (rw k refl) in
           let opens : Opens e (d ∷ s) d = record { kind = k; enough = omega (arith, f, places, w) } in
           ⊎_elim
           (λ (h : 0 < blocks_of unused (d ∷ s)). near near' d (0, omega arith, refl) opens h)
           (λ (h : blocks_of unused (d ∷ s) ≤ 0).
           let left' = room-left e (index_total r) (free_of for_index r) (deleted_of for_index r) (blocks_of for_index r) (index_total s) (free_of for_index s) (deleted_of for_index s) (blocks_of for_index s) x.index y.index (omega (arith, x.all, y.all)) in
-          near_none near' d (0, omega arith, refl) opens (fits-data e d s is.entries k places (omega (arith, left', b.renewed, dirty, size, cut.pages, cut.index))))
+          near_none near' d (0, omega arith, refl) opens (fits-data e d s is.entries k places (omega (arith, left', b.renewed, spare.index, size, cut.pages, cut.index))))
           (cases_lt 0 (blocks_of unused (d ∷ s))))
           (cases_lt (blocks_of for_data s) (blocks_of for_data r + 1))
     ]
 
-lost-data : (e : ℕ) (c : Counts) (r : List Counts) (d : Counts) (s : List Counts) → IsVolume e (c ∷ r) → IsVolume e (d ∷ s) → length s ≡ length r →
-    Bound e (c ∷ r) → 2 ≤ blocks_of unused r → Worth (c ∷ r) c → CutData e c r d s → Batches e c r s ⊎ DeadBlock r s → Mending e (d ∷ s)
+-- a data block that is worth cleaning has a deleted entry, where others have too few places
+worth-spare : (c : Counts) (r : List Counts) → kind_of c ≡ for_data → Worth (c ∷ r) c → free_of for_data r < c.pages → HasSpare c r
+worth-spare c r k worth many = let dirty = worth-data c r k worth many in record { pages = omega (arith, dirty); index = omega (arith, dirty) }
+
+pub lost-data : (e : ℕ) (c : Counts) (r : List Counts) (d : Counts) (s : List Counts) → IsVolume e (c ∷ r) → IsVolume e (d ∷ s) → length s ≡ length r →
+    Bound e (c ∷ r) → 2 ≤ blocks_of unused r → (free_of for_data r < c.pages → HasSpare c r) → CutData e c r d s → Batches e c r s ⊎ DeadBlock r s → Mending e (d ∷ s)
 unfolding blocks_of index_total
-lost-data e c r d s is is' len bound some worth cut (inr (x, at, k, none, dead, few)) =
+lost-data e c r d s is is' len bound some enough cut (inr (x, at, k, none, dead, few)) =
     let here = head-free-data d in
     let bound' : Bound e (d ∷ s) = bound-from e (c ∷ r) (d ∷ s) (omega (arith, no-data-index e c (head-seen e c r is) cut.kind, cut.no_index, cut.index)) (rw cut.kind (omega (arith, few, here))) (omega arith) bound in
     ⊎_elim
     (λ (free : 0 < blocks_of unused (d ∷ s)). strong bound' free)
     (λ (full : blocks_of unused (d ∷ s) ≤ 0). strong_none bound' x (suc at.0, omega (arith, at.1), at.2) k (dead-worth (d ∷ s) x k dead) (dead-fits e (d ∷ s) x is.entries k none))
     (cases_lt 0 (blocks_of unused (d ∷ s)))
-lost-data e c r d s is is' len bound some worth cut (inl b) = batches e c r d s is is' len bound some worth cut b (head-seen e d s is')
+lost-data e c r d s is is' len bound some enough cut (inl b) = batches e c r d s is is' len bound some enough cut b (head-seen e d s is')
 
 cut-data : (e : ℕ) (c : Counts) (r : List Counts) (d : Counts) (s : List Counts) → IsVolume e (c ∷ r) → IsVolume e (d ∷ s) → length s ≡ length r →
     Bound e (c ∷ r) → 2 ≤ blocks_of unused r → Worth (c ∷ r) c → CutData e c r d s → Mending e (d ∷ s)
 unfolding blocks_of free_of deleted_of index_total pages_total
 cut-data e c r d s is is' len bound some worth cut =
-    lost-data e c r d s is is' len bound some worth cut cut.lost
+    lost-data e c r d s is is' len bound some (worth-spare c r cut.kind worth) cut cut.lost
 
 pub cut_mends : CutMends
 cut_mends e c r d s is is' len bound some two worth (inl cut) = cut-index e c r d s is is' len bound some worth cut

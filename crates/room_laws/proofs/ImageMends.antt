@@ -18,11 +18,14 @@ use Rattle.room_laws.specs.Order.{without, Rearranged}
 use Rattle.room_laws.specs.Counting.{block_counts, counts_of}
 use Rattle.room_laws.specs.Stopping.{CanClean}
 use Rattle.room_laws.specs.Mends.{CanMend, CleanMends, MendedHasReserve}
-use Rattle.room_laws.proofs.Cuts.{cut_mends}
+use Rattle.room_laws.proofs.Cuts.{cut_mends, own_kind-free, other_kind-free}
+use Rattle.room_laws.proofs.TwosFree.{two_cut_mends}
+use Rattle.room_laws.specs.TwoFree.{HasSpare}
+use Rattle.room_laws.specs.Recovery.{HasSpareEntries}
 use Rattle.room_laws.proofs.ThreesFree.{three_cut_mends}
 use Rattle.room_laws.proofs.Orders.{stopped_mended, mending_rearranged, blocks-same, free-same, beside-same, index-same}
-use Rattle.room_laws.proofs.Blocks.{Told, told_free, told_index, told_data}
-use Rattle.room_laws.proofs.Tallies.{tidy_counts_tell, tidy_is_volume}
+use Rattle.room_laws.proofs.Blocks.{Told, told_free, told_index, told_data, told}
+use Rattle.room_laws.proofs.Tallies.{tidy_counts_tell, tidy_is_volume, deleted_counted, free_counted}
 use Rattle.room_laws.proofs.Judged.{worth_is_tested}
 use Rattle.room_laws.proofs.Chosen.{none_is_candidate}
 use Rattle.room_laws.proofs.Stops.{bound_to, candidate_of}
@@ -92,8 +95,23 @@ module _ (g : Geometry) (was now : List ℕ) (block : ℕ) (can : CanClean g was
   front_worth : is_worth g was block ≡ true → Worth (block_counts g was block ∷ others_of g was block) (block_counts g was block)
   front_worth worth = worth_back (block_counts g was block ∷ others_of g was block) (counts_of g was) (block_counts g was block) (front g was block low) ((worth_is_tested g was block can.tidy low).0 worth)
 
+  -- entries to spare are so by the counts
+  front_spare : kind_of (block_counts g was block) ≡ for_data → HasSpareEntries g was block → HasSpare (block_counts g was block) (others_of g was block)
+  front_spare kind some =
+      let f = front g was block low in
+      let tell = tidy_counts_tell g was can.tidy in
+      let pages = own_kind-free for_data (block_counts g was block) (others_of g was block) (rw kind refl) in
+      let index = other_kind-free for_index (block_counts g was block) (others_of g was block) (rw kind refl) in
+      let p = free-same for_data (block_counts g was block ∷ others_of g was block) (counts_of g was) f in
+      let i = free-same for_index (block_counts g was block ∷ others_of g was block) (counts_of g was) f in
+      record {
+        pages = omega (arith, pages, p, tell.data_free, some.pages, deleted_counted g was block);
+        index = omega (arith, index, i, tell.index_free, some.index, deleted_counted g was block, free_counted g was block);
+      }
+
   -- what is cut to mends, whatever was cleaned
-  pub mends : is_free_block g was block ≡ false → (kind_of (block_counts g was block) ≡ for_data → 2 ≤ free_blocks g was) → (is_worth g was block ≡ true) ⊎ (3 ≤ free_blocks g was) →
+  pub mends : is_free_block g was block ≡ false → (kind_of (block_counts g was block) ≡ for_data → 2 ≤ free_blocks g was) →
+      (is_worth g was block ≡ true) ⊎ (3 ≤ free_blocks g was) ⊎ ((2 ≤ free_blocks g was) × (is_data_block g was block ≡ true → HasSpareEntries g was block)) →
       CutIndex (entries g) (block_counts g was block) (others_of g was block) (block_counts g now block) (others_of g now block)
       ⊎ CutData (entries g) (block_counts g was block) (others_of g was block) (block_counts g now block) (others_of g now block) → CanMend g now
   mends used two gains cut =
@@ -101,7 +119,12 @@ module _ (g : Geometry) (was now : List ℕ) (block : ℕ) (can : CanClean g was
       let m = ⊎_elim
       (λ (worth : is_worth g was block ≡ true). cut_mends (entries g) (block_counts g was block) (others_of g was block) (block_counts g now block) (others_of g now block)
       (front_volume g was block low can.tidy) (front_volume g now block low t) (omega (arith, o.long, o'.long)) front_bound (omega (arith, free, can.some)) (λ kind. omega (arith, free, two kind)) (front_worth worth) cut)
+      (⊎_elim
       (λ (three : 3 ≤ free_blocks g was). three_cut_mends (entries g) (block_counts g was block) (others_of g was block) (block_counts g now block) (others_of g now block)
       (front_volume g was block low can.tidy) (front_volume g now block low t) (omega (arith, o.long, o'.long)) (omega (arith, free, three)) cut)
+      (λ (pair : (2 ≤ free_blocks g was) × (is_data_block g was block ≡ true → HasSpareEntries g was block)).
+      two_cut_mends (entries g) (block_counts g was block) (others_of g was block) (block_counts g now block) (others_of g now block)
+      (front_volume g was block low can.tidy) (front_volume g now block low t) (omega (arith, o.long, o'.long)) (omega (arith, free, pair.0))
+      (λ kind. front_spare kind (pair.1 (data_kind g was block (told g was can.tidy block low) kind))) cut))
       gains in
       record { image_is = is; tidy = t; mending = mending_rearranged (entries g) (block_counts g now block ∷ others_of g now block) (counts_of g now) (front g now block low) m }

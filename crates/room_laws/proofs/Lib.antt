@@ -41,3 +41,5 @@ pub mod Partings
 pub mod NeatCounts
 pub mod PartMoves
 pub mod ThreesFree
+mod TwosFree
+mod Takeovers

@@ -27,3 +27,5 @@ pub mod Batching
 pub mod Recounting
 pub mod Parting
 pub mod ThreeFree
+pub mod TwoFree
+pub mod Takeover

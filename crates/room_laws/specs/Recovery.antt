@@ -9,7 +9,7 @@ use Rattle.image_model.specs.Tables.{table_of}
 use Rattle.image_model.specs.Headers.{names_index}
 use Rattle.image_model.specs.Tidy.{IsTidy, is_free_block, free_blocks, HasReserve}
 use Rattle.image_model.specs.Kinds.{is_data_block}
-use Rattle.image_model.specs.Collect.{deleted_in, free_in, is_worth, chosen_block}
+use Rattle.image_model.specs.Collect.{deleted_in, free_in, is_worth, chosen_block, free_where, takes_index, takes_data}
 use Rattle.room_laws.specs.Counts.{for_index, for_data}
 use Rattle.room_laws.specs.Places.{HadWith}
 use Rattle.room_laws.specs.Stopping.{CanClean}
@@ -31,14 +31,21 @@ ReserveMends g = (image : List ℕ) → HasReserve g image → Recovers g image
 abbrev pub MendedRecovers : Geometry → Type 0
 MendedRecovers g = (image : List ℕ) → CanMend g image → Recovers g image
 
+-- A copy of each kind may be lost where a data block is cleaned: it has an entry that isn't live, or other data blocks have a free one, and so
+-- have blocks that take index pages.
+pub record HasSpareEntries (g : Geometry) (image : List ℕ) (block : ℕ) : Type 0 where
+  pub pages : 0 < deleted_in g image block + free_where g image (takes_data g image)
+  pub index : 0 < deleted_in g image block + free_in g image block + free_where g image (takes_index g image)
+
 -- The block of an image that can be cleaned is in use, and holds a live data page only where two blocks are free. It is worth cleaning, or three
--- blocks are free.
+-- blocks are free, or two and entries to spare if it holds a live data page.
 pub record MayCut (g : Geometry) (first : List ℕ) (block : ℕ) : Type 0 where
   pub can : CanClean g first
   pub within : block < g.blocks
   pub used : is_free_block g first block ≡ false
   pub reserve : is_data_block g first block ≡ true → HasReserve g first
   pub gains : (is_worth g first block ≡ true) ⊎ (3 ≤ free_blocks g first)
+      ⊎ ((2 ≤ free_blocks g first) × (is_data_block g first block ≡ true → HasSpareEntries g first block))
 
 -- The chosen block is such a one.
 abbrev pub ChosenMayCut : Geometry → Type 0

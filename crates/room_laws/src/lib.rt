@@ -16,6 +16,7 @@ pub mod sorts;
 pub mod steps;
 pub mod stopping;
 pub mod tagging;
+pub mod takeover;
 pub mod taking;
 pub mod volumes;
 pub mod ways;

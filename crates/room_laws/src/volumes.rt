@@ -2,6 +2,7 @@ ghost use Rattle.room_laws.specs.Bounds.{ReserveIsBound, CleaningKeepsBound, Res
 ghost use Rattle.room_laws.specs.Measure.{CleaningFalls, CleaningLowers};
 ghost use Rattle.room_laws.specs.Packing.{NoneWorthIsPacked, HadHasRoom, StoppedIsHad};
 ghost use Rattle.room_laws.specs.ThreeFree.{ThreeCutMends, ThreeLeaveTwo};
+ghost use Rattle.room_laws.specs.TwoFree.{TwoCutMends, TwoLeaveOne, TwoLeaveTwo, SpareIsNeeded};
 
 /// Where no block is worth cleaning nothing is deleted, and each kind has as few blocks as it can.
 pub fn none_worth_is_packed()
@@ -36,4 +37,14 @@ pub fn three_free_are_enough()
 pub fn room_is_exact()
     ensures needed { HadHasRoom }
     ensures enough { StoppedIsHad }
+{}
+
+/// With two free blocks a cleaning may be of any block for index pages, and of a data block if an entry of each kind is to spare: cut off it
+/// leaves a volume that cleanings mend, and done a free block and the bound. Of a block for index pages it leaves two free. Without the entries to
+/// spare it may strand the volume.
+pub fn two_free_are_enough()
+    ensures cut { TwoCutMends }
+    ensures done { TwoLeaveOne }
+    ensures index { TwoLeaveTwo }
+    ensures spare { SpareIsNeeded }
 {}
