@@ -20,6 +20,7 @@ pub mod BatchCalls
 pub mod BatchDrops
 pub mod BatchFinds
 pub mod BatchEnds
+pub mod Most
 pub mod Cleanings
 pub mod PlacesBy
 pub mod IndexOut

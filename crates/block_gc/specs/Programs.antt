@@ -1,7 +1,7 @@
 -- How many pages a cleaning moves, each by six programs.
-use Rattle.std.specs.Prelude.{◌≡◌, ℕ, ◌+◌, ◌*◌, ◌%◌, ◌<◌, ◌≤◌, List, Bool, false, not, nat_lt, ◌==◌, ◌&&◌, Option, Some, None, is_some, max}
+use Rattle.std.specs.Prelude.{◌≡◌, ℕ, ◌+◌, ◌*◌, ◌/◌, ◌%◌, ◌<◌, ◌≤◌, List, [], ◌∷◌, Bool, false, not, nat_lt, ◌==◌, ◌&&◌, Option, Some, None, is_some, max}
 use Rattle.geometry.specs.declared.geometry.Geometry.{Geometry}
-use Rattle.image_model.specs.Collect.{count_in, deleted_in, free_in}
+use Rattle.image_model.specs.Collect.{count_in, deleted_in, free_in, chosen_block}
 use Rattle.image_model.specs.Files.{index_span}
 use Rattle.image_model.specs.Headers.{obj_id, span_of, names_index}
 use Rattle.image_model.specs.Live.{live_at}
@@ -41,6 +41,21 @@ longest_at g image block = max 1 (deleted_in g image block + free_in g image blo
 -- the pages that a cleaning of a block moves
 abbrev pub moved_in : Geometry → List ℕ → (block : ℕ) → ℕ
 moved_in g image block = moved_with g image block (longest_at g image block)
+
+-- the most programs and erases of a cleaning of a block: six for each page that it moves, an erase for each unit of the block, and two for its
+-- count and its magic
+abbrev pub block_cost : Geometry → List ℕ → (block : ℕ) → ℕ
+block_cost g image block = 6 * moved_in g image block + g.block / g.phys + 2
+
+-- .. of the block that is chosen, if one is
+abbrev pub cost_if : Geometry → List ℕ → Option ℕ → ℕ
+cost_if g image None = 0
+cost_if g image (Some block) = block_cost g image block
+
+-- .. of a chain of cleanings that began at these images
+unfoldable pub cost_of : Geometry → List (List ℕ) → ℕ
+cost_of g [] = 0
+cost_of g (image ∷ images) = cost_if g image (chosen_block g image) + cost_of g images
 
 -- Each page that went out of a block from one image to another cost six programs at most, by the counts of programs and erases before and after.
 abbrev pub SixEach : Geometry → (block most : ℕ) → (was now : List ℕ) → (before after : ℕ) → Type 0

@@ -15,6 +15,8 @@ use Rattle.room_laws.specs.Stopping.{gc_measure, CanClean, IsPacked}
 use Rattle.room_laws.specs.Mends.{CanMend}
 use Rattle.room_laws.specs.Recovery.{Recovers}
 use Rattle.flash_view.specs.declared.kinds.StepErr.TheVariants.{DeviceFault}
+use Rattle.block_gc.specs.Programs.{cost_of}
+use Rattle.block_gc.specs.Most.{most_cleanings}
 use Rattle.block_gc.specs.declared.room.Goal.{Goal}
 use Rattle.block_gc.specs.declared.room.Goal.TheVariants.{Pages, Packed, Free}
 use Rattle.block_gc.specs.declared.room.RoomErr.{RoomErr}
@@ -75,28 +77,44 @@ pub record SweptTo (g : Geometry) (first image : List ℕ) : Type 0 where
   pub through : List (List ℕ)
   pub steps : SweptAlong g first through image
 
+-- no image is so
+abbrev pub Never : List ℕ → Type 0
+Never image = ⊥
+
 -- no one of these images is so
 unfoldable pub NoneIs : (List ℕ → Type 0) → List (List ℕ) → Type 0
 NoneIs is [] = Unit {0}
 NoneIs is (image ∷ images) = (is image → ⊥) × NoneIs is images
 
+-- Blocks were cleaned, one after the other, each where the image wasn't so. Two numbers that cleanings lower (gc_measure, most_cleanings) fell by
+-- as many as there were, at least, and the count of programs and erases rose by no more than the cleanings take (cost_of).
+pub record SweptWhile (g : Geometry) (is : List ℕ → Type 0) (was now : List ℕ) (before after : ℕ) : Type 0 where
+  pub swept : SweptTo g was now
+  pub lower : gc_measure g now + length swept.through ≤ gc_measure g was
+  pub most : most_cleanings g now + length swept.through ≤ most_cleanings g was
+  pub needed : NoneIs is swept.through
+  pub few : after ≤ before + cost_of g swept.through
+
 -- After n cleanings the image is tidy with the table of the first, and can be cleaned where the first could.
 -- Each was a swept step, has lowered the number that cleanings lower, and leaves an image that mends where it did. Tails that were ready are so still.
-pub record Cleanings (g : Geometry) (n : ℕ) (was now : List ℕ) : Type 0 where
+-- The count of programs and erases rose by no more than they take.
+pub record Cleanings (g : Geometry) (n before after : ℕ) (was now : List ℕ) : Type 0 where
   pub image : IsImage g now
   pub tidy : IsTidy g now
   pub table : table_of g now ≡ table_of g was
   pub swept : SweptTo g was now
   pub count : length swept.through ≡ n
   pub lower : gc_measure g now + n ≤ gc_measure g was
+  pub most : most_cleanings g now + n ≤ most_cleanings g was
   pub again : CanClean g was → CanClean g now
   pub mend : CanMend g was → CanMend g now
   pub tails : KeepsTails g was now
+  pub few : after ≤ before + cost_of g swept.through
 
 -- one cleaning, or no block is chosen and nothing is changed
-abbrev pub CleanedOrNone : Geometry → Bool → (was now : List ℕ) → Type 0
-CleanedOrNone g true was now = Cleanings g 1 was now
-CleanedOrNone g false was now = (chosen_block g was ≡ None) × (now ≡ was)
+abbrev pub CleanedOrNone : Geometry → Bool → (before after : ℕ) → (was now : List ℕ) → Type 0
+CleanedOrNone g true before after was now = Cleanings g 1 before after was now
+CleanedOrNone g false before after was now = (chosen_block g was ≡ None) × (now ≡ was) × (after ≤ before)
 
 -- The image is tidy with its table, so many pages of each kind are had, and two blocks are free. Each cleaning began where that wasn't so. The
 -- number that cleanings lower (gc_measure) fell by as many as there were, at least. Tails that were ready are so still.
@@ -158,40 +176,58 @@ StopsAt g goal true now = IsMet g now goal
 StopsAt g goal false now = (chosen_block g now ≡ None) × (IsMet g now goal → ⊥)
 
 -- n cleanings, and each began where the goal wasn't met
-pub record CleaningsTo (g : Geometry) (goal : Goal) (n : ℕ) (was now : List ℕ) : Type 0 where
-  pub cleanings : Cleanings g n was now
+pub record CleaningsTo (g : Geometry) (goal : Goal) (n before after : ℕ) (was now : List ℕ) : Type 0 where
+  pub cleanings : Cleanings g n before after was now
   pub needed : NoneIs (λ image. IsMet g image goal) cleanings.swept.through
 
 -- so many cleanings, and where they stopped
-pub record Collected (g : Geometry) (goal : Goal) (met : Bool) (was now : List ℕ) : Type 0 where
+pub record Collected (g : Geometry) (goal : Goal) (met : Bool) (before after : ℕ) (was now : List ℕ) : Type 0 where
   pub n : ℕ
-  pub cleanings : Cleanings g n was now
+  pub cleanings : Cleanings g n before after was now
   pub needed : NoneIs (λ image. IsMet g image goal) cleanings.swept.through
   pub stops : StopsAt g goal met now
 
 -- a cleaning more where the goal wasn't met, or collection stops there
-abbrev pub TurnOf : Geometry → Goal → Option Bool → (was now : List ℕ) → Type 0
-TurnOf g goal None was now = Cleanings g 1 was now × (IsMet g was goal → ⊥)
-TurnOf g goal (Some met) was now = (now ≡ was) × StopsAt g goal met was
+abbrev pub TurnOf : Geometry → Goal → Option Bool → (before after : ℕ) → (was now : List ℕ) → Type 0
+TurnOf g goal None before after was now = Cleanings g 1 before after was now × (IsMet g was goal → ⊥)
+TurnOf g goal (Some met) before after was now = (now ≡ was) × StopsAt g goal met was × (after ≤ before)
 
--- ---- the steps: the chosen block is cleaned, a turn of collection, and all turns
+-- ---- the steps, by the counts of programs and erases before and after: the chosen block is cleaned, a turn of collection, and all turns
 
-abbrev pub cleaning_chosen : Stage Bool
-cleaning_chosen = record { needs = IsTidy; cut = CollectCut; done = λ g was now cleaned. CleanedOrNone g cleaned was now }
+abbrev pub cleaning_chosen : (before after : ℕ) → Stage Bool
+cleaning_chosen before after = record { needs = IsTidy; cut = CollectCut; done = λ g was now cleaned. CleanedOrNone g cleaned before after was now }
 
-abbrev pub turning_to : Goal → Stage (Option Bool)
-turning_to goal = record { needs = IsTidy; cut = CollectCut; done = λ g was now met. TurnOf g goal met was now }
+abbrev pub turning_to : Goal → (before after : ℕ) → Stage (Option Bool)
+turning_to goal before after = record { needs = IsTidy; cut = CollectCut; done = λ g was now met. TurnOf g goal met before after was now }
 
-abbrev pub collecting : Goal → Stage Bool
-collecting goal = record { needs = IsTidy; cut = CollectCut; done = λ g was now met. Collected g goal met was now }
+abbrev pub collecting : Goal → (before after : ℕ) → Stage Bool
+collecting goal before after = record { needs = IsTidy; cut = CollectCut; done = λ g was now met. Collected g goal met before after was now }
+
+-- A step of a collection: the chosen block was cleaned, and others after it, each where fewer than two blocks were free; two are free now where
+-- the first image could be cleaned. Or no block is chosen and nothing is changed.
+pub record HasStepped (g : Geometry) (before after : ℕ) (was now : List ℕ) : Type 0 where
+  pub n : ℕ
+  pub cleanings : Cleanings g (1 + n) before after was now
+  pub reserve : CanClean g was → HasReserve g now
+
+abbrev pub SteppedOrNone : Geometry → Bool → (before after : ℕ) → (was now : List ℕ) → Type 0
+SteppedOrNone g true before after was now = HasStepped g before after was now
+SteppedOrNone g false before after was now = (chosen_block g was ≡ None) × (now ≡ was) × (after ≤ before)
+
+abbrev pub stepping : (before after : ℕ) → Stage Bool
+stepping before after = record { needs = IsTidy; cut = CollectCut; done = λ g was now cleaned. SteppedOrNone g cleaned before after was now }
 
 -- all is packed, or collection is stuck
 abbrev pub PackedOrStuck : Geometry → Bool → (was now : List ℕ) → Type 0
 PackedOrStuck g true was now = IsStuck g was now
 PackedOrStuck g false was now = IsCompact g was now
 
-abbrev pub packing : Stage Bool
-packing = record { needs = IsTidy; cut = CollectCut; done = λ g was now stuck. PackedOrStuck g stuck was now }
+abbrev pub packing : (before after : ℕ) → Stage Bool
+packing before after = record {
+  needs = IsTidy;
+  cut = CollectCut;
+  done = λ g was now stuck. PackedOrStuck g stuck was now × SweptWhile g Never was now before after;
+}
 
 -- So many blocks are free, or fewer are and no block is chosen; then all is packed where the first image could be cleaned, and so many are free as
 -- the pages of the table leave.
@@ -201,11 +237,11 @@ FreeStops g blocks false was now = (free_blocks g now < blocks) × (chosen_block
     free_blocks g now + ceil (index_count g (table_of g was)) (entries g) + ceil (data_count g (table_of g was)) (entries g) ≡ g.blocks)
 
 -- So many cleanings, each where fewer blocks were free, and where they stopped.
-pub record FreedUp (g : Geometry) (blocks : ℕ) (met : Bool) (was now : List ℕ) : Type 0 where
+pub record FreedUp (g : Geometry) (blocks : ℕ) (met : Bool) (before after : ℕ) (was now : List ℕ) : Type 0 where
   pub n : ℕ
-  pub cleanings : Cleanings g n was now
+  pub cleanings : Cleanings g n before after was now
   pub needed : NoneIs (λ image. blocks ≤ free_blocks g image) cleanings.swept.through
   pub stops : FreeStops g blocks met was now
 
-abbrev pub freeing : (blocks : ℕ) → Stage Bool
-freeing blocks = record { needs = IsTidy; cut = CollectCut; done = λ g was now met. FreedUp g blocks met was now }
+abbrev pub freeing : (blocks before after : ℕ) → Stage Bool
+freeing blocks before after = record { needs = IsTidy; cut = CollectCut; done = λ g was now met. FreedUp g blocks met before after was now }

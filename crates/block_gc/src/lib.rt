@@ -19,7 +19,7 @@ pub use cleaning::clean;
 pub use laws::scores_are_told;
 pub use next::{choose, is_ready, is_stuck};
 pub use parting::part_mixed;
-pub use room::{RoomErr, compact, free_up, make_room};
+pub use room::{RoomErr, compact, free_up, gc_step, make_room};
 pub use scores::score;
 pub use spares::may_move;
 pub use swapping::move_block;

@@ -8,10 +8,10 @@ ghost use Rattle.flash_view.specs.Same.{IsSameView, OnlyLooks};
 ghost use Rattle.room_laws.specs.Stopping.{CanClean, HasRoomFor};
 ghost use Rattle.room_laws.specs.Mends.{CanMend};
 ghost use Rattle.flash_view.specs.Steps.{Stepped, stopped};
-ghost use Rattle.block_gc.specs.RoomMade.{IsFaultOrTight, UnlessFailed, is_apart_in, IsReady, IsMet, IfMet, CollectCut, MadeRoom, IsTight, IsCompact, IsStuck};
+ghost use Rattle.block_gc.specs.RoomMade.{IsFaultOrTight, UnlessFailed, is_apart_in, IsReady, IsMet, IfMet, CollectCut, SweptWhile, Never, MadeRoom, IsTight, IsCompact, IsStuck};
 ghost use Rattle.block_gc.specs.declared.room.RoomErr.{RoomErr};
 ghost use Rattle.block_gc.specs.declared.room.Goal.{Goal};
-ghost use Rattle.block_gc.specs.RoomMade.{cleaning_chosen, turning_to, collecting, packing, freeing};
+ghost use Rattle.block_gc.specs.RoomMade.{cleaning_chosen, stepping, turning_to, collecting, packing, freeing};
 
 use crate::cleaning::clean;
 use crate::next::{choose, is_ready, is_stuck};
@@ -74,7 +74,7 @@ fn is_met<N: Nor>(v: &mut View<'_, N>, goal: Goal) -> Result<bool, Failed>
 
 // Cleans the chosen block, and tells whether there was one.
 fn clean_chosen<N: Nor>(v: &mut View<'_, N>) -> Result<bool, StepErr>
-    ensures { Stepped stopped v.old v.new result cleaning_chosen }
+    ensures { Stepped stopped v.old v.new result (cleaning_chosen (N.device_writes v.old.nor.now) (N.device_writes v.new.nor.now)) }
 {
     let Some(block) = choose(v)? else {
         return Ok(false);
@@ -85,7 +85,7 @@ fn clean_chosen<N: Nor>(v: &mut View<'_, N>) -> Result<bool, StepErr>
 
 // A turn of collection: a block more was cleaned, or whether the goal is met where collection stops.
 fn collect_turn<N: Nor>(v: &mut View<'_, N>, goal: Goal) -> Result<Option<bool>, StepErr>
-    ensures step { Stepped stopped v.old v.new result (turning_to goal) }
+    ensures step { Stepped stopped v.old v.new result (turning_to goal (N.device_writes v.old.nor.now) (N.device_writes v.new.nor.now)) }
     ensures idle { N.tells v.old.nor.now → IsTidy v.old.geometry (N.bytes v.old.nor.now) → IsMet v.old.geometry (N.bytes v.old.nor.now) goal →
         OnlyReads N.NorState v.old.nor.now v.new.nor.now }
 {
@@ -101,7 +101,7 @@ fn collect_turn<N: Nor>(v: &mut View<'_, N>, goal: Goal) -> Result<Option<bool>,
 
 // Cleans the chosen block, one after the other, until the goal is met or no block is chosen: whether it is met.
 fn collect<N: Nor>(v: &mut View<'_, N>, goal: Goal) -> Result<bool, StepErr>
-    ensures step { Stepped stopped v.old v.new result (collecting goal) }
+    ensures step { Stepped stopped v.old v.new result (collecting goal (N.device_writes v.old.nor.now) (N.device_writes v.new.nor.now)) }
     ensures idle { N.tells v.old.nor.now → IsTidy v.old.geometry (N.bytes v.old.nor.now) → IsMet v.old.geometry (N.bytes v.old.nor.now) goal →
         OnlyReads N.NorState v.old.nor.now v.new.nor.now }
 {
@@ -111,6 +111,19 @@ fn collect<N: Nor>(v: &mut View<'_, N>, goal: Goal) -> Result<bool, StepErr>
         }
     }
     Ok(false)
+}
+
+/// A step of a collection, for idle time: cleans the block that is chosen next, if there is one, and after it others until two blocks are
+/// free again; and tells whether there was one. A cut leaves the table as it is, and where the image could be cleaned an uncut check gives two
+/// free blocks back.
+pub fn gc_step<N: Nor>(v: &mut View<'_, N>) -> Result<bool, StepErr>
+    ensures { Stepped stopped v.old v.new result (stepping (N.device_writes v.old.nor.now) (N.device_writes v.new.nor.now)) }
+{
+    if !clean_chosen(v)? {
+        return Ok(false);
+    }
+    collect(v, Goal::Pages(0, 0))?;
+    Ok(true)
 }
 
 /// Cleans blocks until so many index pages and data pages are had and two blocks are free, and cleans none where that is so
@@ -130,6 +143,9 @@ pub fn make_room<N: Nor>(v: &mut View<'_, N>, index: u32, data_pages: u32) -> Re
         OnlyReads N.NorState v.old.nor.now v.new.nor.now }
     ensures done { N.tells v.old.nor.now → IsTidy v.old.geometry (N.bytes v.old.nor.now) →
         OnOk result (MadeRoom v.old.geometry index data_pages (N.bytes v.old.nor.now) (N.bytes v.new.nor.now)) }
+    ensures swept { N.tells v.old.nor.now → IsTidy v.old.geometry (N.bytes v.old.nor.now) → UnlessFailed result
+        (SweptWhile v.old.geometry (λ image. IsReady v.old.geometry image index data_pages) (N.bytes v.old.nor.now) (N.bytes v.new.nor.now)
+        (N.device_writes v.old.nor.now) (N.device_writes v.new.nor.now)) }
     ensures tight { N.tells v.old.nor.now → IsTidy v.old.geometry (N.bytes v.old.nor.now) → IsErrOf result RoomErr.Tight →
         IsTight v.old.geometry index data_pages (N.bytes v.old.nor.now) (N.bytes v.new.nor.now) }
     ensures never_tight { N.tells v.old.nor.now → CanClean v.old.geometry (N.bytes v.old.nor.now) →
@@ -148,7 +164,7 @@ pub fn make_room<N: Nor>(v: &mut View<'_, N>, index: u32, data_pages: u32) -> Re
 
 // Cleans the chosen block, one after the other, until none is chosen: whether collection is stuck then.
 fn pack<N: Nor>(v: &mut View<'_, N>) -> Result<bool, StepErr>
-    ensures { Stepped stopped v.old v.new result packing }
+    ensures { Stepped stopped v.old v.new result (packing (N.device_writes v.old.nor.now) (N.device_writes v.new.nor.now)) }
 {
     collect(v, Goal::Packed)?;
     Ok(is_stuck(v)?)
@@ -168,6 +184,8 @@ pub fn compact<N: Nor>(v: &mut View<'_, N>) -> Result<(), RoomErr>
     ensures stands { N.tells v.old.nor.now → IsTidy v.old.geometry (N.bytes v.old.nor.now) → v.old.counted ≡ true → UnlessFailed result (v.new.counted ≡ true) }
     ensures done { N.tells v.old.nor.now → IsTidy v.old.geometry (N.bytes v.old.nor.now) →
         OnOk result (IsCompact v.old.geometry (N.bytes v.old.nor.now) (N.bytes v.new.nor.now)) }
+    ensures swept { N.tells v.old.nor.now → IsTidy v.old.geometry (N.bytes v.old.nor.now) → UnlessFailed result
+        (SweptWhile v.old.geometry Never (N.bytes v.old.nor.now) (N.bytes v.new.nor.now) (N.device_writes v.old.nor.now) (N.device_writes v.new.nor.now)) }
     ensures tight { N.tells v.old.nor.now → IsTidy v.old.geometry (N.bytes v.old.nor.now) → IsErrOf result RoomErr.Tight →
         IsStuck v.old.geometry (N.bytes v.old.nor.now) (N.bytes v.new.nor.now) }
     ensures never_tight { N.tells v.old.nor.now → CanClean v.old.geometry (N.bytes v.old.nor.now) → IfErr result (λ why. why ≢ RoomErr.Tight) }
@@ -184,7 +202,7 @@ pub fn compact<N: Nor>(v: &mut View<'_, N>) -> Result<(), RoomErr>
 /// Cleans blocks until so many are free, or none is chosen: whether so many are free. Where they are already none is cleaned. A cut leaves the
 /// table as it is, and where the image could be cleaned an uncut check gives two free blocks back. Two are always freed of an image that mends.
 pub fn free_up<N: Nor>(v: &mut View<'_, N>, blocks: u32) -> Result<bool, StepErr>
-    ensures step { Stepped stopped v.old v.new result (freeing blocks) }
+    ensures step { Stepped stopped v.old v.new result (freeing blocks (N.device_writes v.old.nor.now) (N.device_writes v.new.nor.now)) }
     ensures mended { N.tells v.old.nor.now → CanMend v.old.geometry (N.bytes v.old.nor.now) → blocks ≤ 2 → IfOk result (λ met. met ≡ true) }
     ensures idle { N.tells v.old.nor.now → IsTidy v.old.geometry (N.bytes v.old.nor.now) → blocks ≤ free_blocks v.old.geometry (N.bytes v.old.nor.now) →
         OnlyReads N.NorState v.old.nor.now v.new.nor.now }

@@ -12,7 +12,7 @@ use nor_core::{Nor, NorState};
 /// cut an uncut check gives two free blocks back; done they are free.
 pub fn move_block<N: Nor>(v: &mut View<'_, N>, block: u16) -> Result<bool, StepErr>
     requires { block < v.old.geometry.blocks }
-    ensures { Stepped stopped v.old v.new result (moving_block block) }
+    ensures { Stepped stopped v.old v.new result (moving_block block (N.device_writes v.old.nor.now) (N.device_writes v.new.nor.now)) }
 {
     clean(v, block)?;
     free_up(v, 2)

@@ -1,5 +1,5 @@
 -- Files that are cut to their first bytes, in calls.
-use Rattle.std.proofs.Common.{◌≡◌, ℕ, ◌<◌, ◌≤◌, ◌==◌, ⊎_elim, inl, inr, List, [], ◌∷◌, length, map, Bool, true, false, refl, sym, ◌∙◌, ap, subst, arith, nat_lt}
+use Rattle.std.proofs.Common.{◌≡◌, ℕ, ◌+◌, ◌<◌, ◌≤◌, ◌==◌, ⊎_elim, inl, inr, List, [], ◌∷◌, length, map, Bool, true, false, refl, sym, ◌∙◌, ap, subst, arith, nat_lt}
 use Rattle.std.specs.Prelude.{Option, Some, None, Result, Ok, Err}
 use Rattle.std.specs.Option.{option_map}
 use Rattle.std.proofs.lemmas.Bool.{cases_Bool, leb-true, lt-ltb, le-ltb, ne_eqb, eq-eqb}
@@ -39,11 +39,11 @@ use Rattle.file_calls.specs.States.{IsImageOf}
 use Rattle.file_calls.specs.Collecting.{RoomCut, seeking_page}
 use Rattle.file_calls.specs.Refusals.{has_room_beside, IsResized, HasRoomAfter}
 use Rattle.file_calls.specs.Cuts.{CanCut, JobCut, cutting}
-use Rattle.file_calls.specs.Cleans.{index_taken, Taken}
+use Rattle.file_calls.specs.Cleans.{index_taken, rest_taken, Taken}
 use Rattle.file_calls.specs.Goes.{Goes}
 use Rattle.file_calls.proofs.Numbered.{numbered_fine}
-use Rattle.file_calls.proofs.CleansBy.{step_leaves, cleans_as, taken_as, taken_after, taken_then}
-use Rattle.file_calls.proofs.TurnsBy.{index_few, few_once, turns_once}
+use Rattle.file_calls.proofs.CleansBy.{step_leaves, cleans_as, taken_as, taken_after, taken_then, taken_within}
+use Rattle.file_calls.proofs.TurnsBy.{index_few, rest_few, few_once, turns_once}
 use Rattle.file_calls.proofs.Going.{is_flat, not_collects, IsOneStep, one_step, one_does, before_or_after, IsStep, some_steps, goes_by, no_gift, refuses_same, stop_slots}
 use Rattle.file_calls.proofs.Paged.{room_for_one, left_since}
 use Rattle.file_calls.proofs.Descriptors.{open_in, file_at, stat_is}
@@ -86,11 +86,11 @@ is_resized files id size from f there long less = record {
 abbrev pub where_true : Step Bool → Step (Unit {0})
 where_true step = record { needs = step.needs; cut = step.cut; done = λ g was now ok. step.done g was now true }
 
-module _ {N : Type 0} {nor : NorOf N} {old new : View N nor} {step : Step Bool} where
-  pub ends_true : Taken stopped 1 0 old new (Ok true) step → Taken stopped 1 0 old new (Ok tt) (where_true step)
+module _ {N : Type 0} {nor : NorOf N} {old new : View N nor} {rest : ℕ} {step : Step Bool} where
+  pub ends_true : Taken stopped 1 0 rest old new (Ok true) step → Taken stopped 1 0 rest old new (Ok tt) (where_true step)
   ends_true call = taken_as call (ends_as call.steps (λ tells need. record { needs = need; cut = λ c cut. cut }) (λ tells need done. done)) (λ tells need. need) (λ e. e)
 
-  pub fails_true : {why : StepErr} → Taken stopped 1 0 old new (Err why) step → Taken stopped 1 0 old new (Err why) (where_true step)
+  pub fails_true : {why : StepErr} → Taken stopped 1 0 rest old new (Err why) step → Taken stopped 1 0 rest old new (Err why) (where_true step)
   fails_true call = taken_as call (fails_as call.steps (λ k. k) (λ k. k) call.steps.means (λ tells need. record { needs = need; cut = λ c cut. cut })) (λ tells need. need) (λ e. e)
 
 -- a cut while a page is sought
@@ -106,20 +106,20 @@ then_cuts g was mid id size f can made = record {
   done = λ c ok done. record { tidy = done.tidy; table = done.table ∙ ap (put_file (shortened size f)) made.table; reserve = λ reserve. done.reserve made.ready.reserve };
 }
 
-module _ {N : Type 0} {nor : NorOf N} {old new : View N nor} (id size : ℕ) (f : File) where
+module _ {N : Type 0} {nor : NorOf N} {old new : View N nor} {rest : ℕ} (id size : ℕ) (f : File) where
   -- no page could be sought
-  pub seek_failed : {why : StepErr} → Taken stopped 1 0 old new (Err why) seeking_page → Taken stopped 1 0 old new (Err why) (cutting id size f)
-  seek_failed call = taken_as call (fails_as call.steps (λ k. k) (λ k. k) call.steps.means (λ tells can. record { needs = record { tidy = can.tidy; reserve = can.reserve }; cut = λ c cut. seek_cut _ _ _ c cut }))
-      (λ tells can. record { tidy = can.tidy; reserve = can.reserve }) (λ e. e)
+  pub seek_failed : {why : StepErr} → Taken stopped 1 0 0 old new (Err why) seeking_page → Taken stopped 1 0 rest old new (Err why) (cutting id size f)
+  seek_failed call = taken_within (omega arith) (taken_as call (fails_as call.steps (λ k. k) (λ k. k) call.steps.means (λ tells can. record { needs = record { tidy = can.tidy; reserve = can.reserve }; cut = λ c cut. seek_cut _ _ _ c cut }))
+      (λ tells can. record { tidy = can.tidy; reserve = can.reserve }) (λ e. e))
 
   -- there was none
-  pub none_found : Taken stopped 1 0 old new (Ok false) seeking_page → Taken stopped 1 0 old new (Ok false) (cutting id size f)
-  none_found call = taken_as call (ends_as call.steps (λ tells can. record { needs = record { tidy = can.tidy; reserve = can.reserve }; cut = λ c cut. seek_cut _ _ _ c cut }) (λ tells can none. none))
-      (λ tells can. record { tidy = can.tidy; reserve = can.reserve }) (λ e. e)
+  pub none_found : Taken stopped 1 0 0 old new (Ok false) seeking_page → Taken stopped 1 0 rest old new (Ok false) (cutting id size f)
+  none_found call = taken_within (omega arith) (taken_as call (ends_as call.steps (λ tells can. record { needs = record { tidy = can.tidy; reserve = can.reserve }; cut = λ c cut. seek_cut _ _ _ c cut }) (λ tells can none. none))
+      (λ tells can. record { tidy = can.tidy; reserve = can.reserve }) (λ e. e))
 
   -- one was had, and then the file was to be cut
-  pub cut_then : {mid : View N nor} {r : Result (Unit {0}) StepErr} → Taken stopped 1 0 old mid (Ok true) seeking_page → Stepped stopped mid new r (truncating id size f) → Taken stopped 1 0 old new r (where_true (cutting id size f))
-  cut_then first next = taken_then (λ h was image cut. step_leaves cut) first next
+  pub cut_then : {mid : View N nor} {r : Result (Unit {0}) StepErr} → nor.device_writes new.nor.now ≤ nor.device_writes mid.nor.now + rest → Taken stopped 1 0 0 old mid (Ok true) seeking_page → Stepped stopped mid new r (truncating id size f) → Taken stopped 1 0 rest old new r (where_true (cutting id size f))
+  cut_then few first next = taken_then (λ h was image cut. step_leaves cut) few first next
       (λ tells can. record { needs = record { tidy = can.tidy; reserve = can.reserve }; cut = λ c cut. seek_cut _ _ _ c cut })
       (λ tells can made. then_cuts _ _ _ id size f can made)
 
@@ -179,9 +179,9 @@ module _ {D : Type 0} {nor : NorOf D} {g : Geometry} {old : D} {slots : List FdS
 
 -- No page was had for the cut, since the table had no room: nothing is changed but where pages stand.
 pub goes_cornered : {N : Type 0} {nor : NorOf N} {old mid new : View N nor} {slots : List FdSlot} {after : List (Option Open)} {id size : ℕ} {f : File} (ask : Ask) (reply : Answer) → is_flat ask ≡ true → is_change ask ≡ true → cuts_file ask ≡ true → slots_fault old.geometry (descriptors slots) ask ≡ None →
-    IsStep nor old.geometry slots ask reply after old.nor.now (where_true (cutting id size f)) → OnlyLooks old mid → old.wrote ≡ false → may_answer ask (Refuses Tight) ≡ true → Taken stopped (index_taken ask) 0 mid new (Ok false) (cutting id size f) → Goes nor old.geometry ask old.nor.now new.nor.now slots slots new.wrote (Refuses Tight)
+    IsStep nor old.geometry slots ask reply after old.nor.now (where_true (cutting id size f)) → OnlyLooks old mid → old.wrote ≡ false → may_answer ask (Refuses Tight) ≡ true → Taken stopped (index_taken ask) 0 (rest_taken mid.geometry ask) mid new (Ok false) (cutting id size f) → Goes nor old.geometry ask old.nor.now new.nor.now slots slots new.wrote (Refuses Tight)
 goes_cornered {nor = nor} {old = old} {mid = mid} {new = new} {slots = slots} {id = id} {size = size} {f = f} ask reply flat change cuts fine does looks fresh may taken =
-    let all = taken_after looks taken in
+    let all = subst (λ (k : Geometry). Taken {nor = nor} stopped (index_taken ask) 0 (rest_taken k ask) old new (Ok false) (cutting id size f)) looks.same.geometry (taken_after looks taken) in
     let call : Stepped stopped old new (Ok false) (cutting id size f) = all.steps in
     goes_by ask (Refuses Tight) new.wrote
     (record {
@@ -213,7 +213,7 @@ goes_cornered {nor = nor} {old = old} {mid = mid} {new = new} {slots = slots} {i
     (λ look. absurd (let no : true ≡ false = sym change ∙ look in cc))
     (λ why e. absurd (let no : None ≡ Some why = sym fine ∙ e in cc))
     (λ s here write none. cleans_as (λ e. absurd (let no : false ≡ true = e in cc)) (all.cleans here.tells (does.can s here)))
-    (λ s here write. turns_once (index_few ask) (omega arith) (few_once (some_steps old.geometry (nor.bytes old.nor.now) s ask flat (does.doable s here))) (cleans_as (λ e. absurd (let no : false ≡ true = e in cc)) (all.cleans here.tells (does.can s here))))
+    (λ s here write. turns_once (index_few ask) (omega arith) (rest_few old.geometry ask write) (few_once (some_steps old.geometry (nor.bytes old.nor.now) s ask flat (does.doable s here))) (cleans_as (λ e. absurd (let no : false ≡ true = e in cc)) (all.cleans here.tells (does.can s here))))
 
 -- ---- cuts by descriptor
 

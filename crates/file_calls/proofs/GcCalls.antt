@@ -1,5 +1,5 @@
 -- Collections in calls, by what cleaning block after block tells.
-use Rattle.std.proofs.Common.{◌≡◌, ℕ, ◌⊎◌, ⊎_elim, inl, List, length, Bool, true, false, refl, sym, ◌∙◌, ap, subst}
+use Rattle.std.proofs.Common.{◌≡◌, ℕ, ◌⊎◌, ⊎_elim, inl, List, length, Bool, true, false, refl, sym, ◌∙◌, ap, subst, arith}
 use Rattle.std.specs.Prelude.{Result, Ok, Err, IsErrOf, Some, None}
 use Rattle.geometry.specs.declared.geometry.Geometry.{Geometry}
 use Rattle.nor_core.specs.declared.state.NorState.{Ghosts as NorOf}
@@ -48,14 +48,15 @@ pub room_cuts : {N : Type 0} {nor : NorOf N} {d : N} (old : View N nor) → (nor
 room_cuts old sized changes = wider changes (λ tells image cut tidy. let w = cut tidy in record { keeps = w.keeps; mends = λ reserve. w.mends (view_can old sized tells tidy reserve) })
 
 -- the blocks that it cleans, where each cleaning began without the pages that it is for; with two free blocks it cleans none for no pages
-pub room_cleans : {N : Type 0} {nor : NorOf N} {d : N} {index pages : ℕ} {P : Type 0} (old : View N nor) → Changes nor old.nor.now d (λ was image. IsTidy old.geometry was → RoomCut old.geometry was image) → IsTidy old.geometry (nor.bytes old.nor.now) → HasReserve old.geometry (nor.bytes old.nor.now) →
-    (IsReady old.geometry (nor.bytes old.nor.now) index pages → OnlyReads nor old.nor.now d) → ((P → ⊥) → SweptFor old.geometry index pages (nor.bytes old.nor.now) (nor.bytes d)) → CleansFor nor old.geometry index pages old.nor.now d P
+pub room_cleans : {N : Type 0} {nor : NorOf N} {d : N} {index pages rest : ℕ} {P : Type 0} (old : View N nor) → Changes nor old.nor.now d (λ was image. IsTidy old.geometry was → RoomCut old.geometry was image) → IsTidy old.geometry (nor.bytes old.nor.now) → HasReserve old.geometry (nor.bytes old.nor.now) →
+    (IsReady old.geometry (nor.bytes old.nor.now) index pages → OnlyReads nor old.nor.now d) → ((P → ⊥) → SweptFor old.geometry index pages (nor.bytes old.nor.now) (nor.bytes d) (nor.device_writes old.nor.now) (nor.device_writes d)) → CleansFor nor old.geometry index pages rest old.nor.now d P
 room_cleans {nor = nor} {d = d} {index = index} {pages = pages} old changes tidy reserve idle needed = record {
   mid = d;
   first = wider changes (λ tells image cut. cut tidy);
   idle = idle;
   needed = needed;
-  rest = unchanged d (LeavesBlocks old.geometry) (λ tells. leaves_none old.geometry (nor.bytes d));
+  few = omega arith;
+  rest_cut = unchanged d (LeavesBlocks old.geometry) (λ tells. leaves_none old.geometry (nor.bytes d));
   none = λ no_index no_pages.
       let ready : IsReady old.geometry (nor.bytes old.nor.now) index pages = rw (no_index, no_pages) (reserve_ready old.geometry (nor.bytes old.nor.now) reserve) in
       read_after (unchanged old.nor.now (LeavesBlocks old.geometry) (λ tells. leaves_none old.geometry (nor.bytes old.nor.now))) (idle ready);
@@ -96,24 +97,24 @@ gc_refused g why slots wrote may other = record {
 }
 
 module _ {N : Type 0} {nor : NorOf N} {old new : View N nor} (slots : List FdSlot) (fresh : old.wrote ≡ false) where
-  gc_cuts : {r : Result Bool StepErr} → Stepped stopped old new r packing → Changes nor old.nor.now new.nor.now (λ was image. (s : State) → IsImageOf nor old.geometry old.nor.now slots s → CallCut old.geometry s Collects was image)
+  gc_cuts : {r : Result Bool StepErr} → Stepped stopped old new r (packing (nor.device_writes old.nor.now) (nor.device_writes new.nor.now)) → Changes nor old.nor.now new.nor.now (λ was image. (s : State) → IsImageOf nor old.geometry old.nor.now slots s → CallCut old.geometry s Collects was image)
   gc_cuts call = wider call.cuts (λ tells image cut s here. let w = cut here.tidy in record {
     sound = w.keeps.sound;
     mends = w.mends;
     table = is_first (table_of old.geometry image) s.table (steps old.geometry (has_spare old.geometry (nor.bytes old.nor.now)) s Collects) (w.keeps.table ∙ sym here.table);
   })
 
-  gc_upkeep : {r : Result Bool StepErr} → Stepped stopped old new r packing → Changes nor old.nor.now new.nor.now (λ was image. (s : State) → IsImageOf nor old.geometry old.nor.now slots s → Upkeep old.geometry was image)
+  gc_upkeep : {r : Result Bool StepErr} → Stepped stopped old new r (packing (nor.device_writes old.nor.now) (nor.device_writes new.nor.now)) → Changes nor old.nor.now new.nor.now (λ was image. (s : State) → IsImageOf nor old.geometry old.nor.now slots s → Upkeep old.geometry was image)
   gc_upkeep call = wider call.upkeep (λ tells image kept s here. kept here.tidy)
 
   -- all is packed
-  pub gc_done : Stepped stopped old new (Ok false) packing → Goes nor old.geometry Collects old.nor.now new.nor.now slots slots new.wrote Fine
+  pub gc_done : Stepped stopped old new (Ok false) (packing (nor.device_writes old.nor.now) (nor.device_writes new.nor.now)) → Goes nor old.geometry Collects old.nor.now new.nor.now slots slots new.wrote Fine
   gc_done call = goes_by Collects Fine new.wrote
       (record { among = refl; brief = λ bytes e. absurd (cc); numbered = numbered_fine old.geometry slots Collects Fine new.wrote refl (λ why of e. cc); still = λ refusal. refl; keeps = λ k. refl })
       (gc_cuts call)
       (gc_upkeep call)
       (λ s here no_fault whole.
-      let now = call.ends here.tells here.tidy in
+      let now = (call.ends here.tells here.tidy).0 in
       let flat = flat_collects old.geometry (has_spare old.geometry (nor.bytes old.nor.now)) s in
       record {
         reply_is = sym (ap (λ (o : Outcome). o.answer) flat);
@@ -122,7 +123,7 @@ module _ {N : Type 0} {nor : NorOf N} {old new : View N nor} (slots : List FdSlo
         reserve = now.reserve;
         reads = λ refusal. absurd (let no : false ≡ true = refusal in cc);
       })
-      (λ s here is. record { packed = λ e. call.ends here.tells here.tidy; stuck = λ e. absurd (cc) })
+      (λ s here is. record { packed = λ e. (call.ends here.tells here.tidy).0; stuck = λ e. absurd (cc); swept = λ whole. (call.ends here.tells here.tidy).1 })
       (λ s here corner tight. absurd (no_corner old.geometry (nor.bytes old.nor.now) s corner))
       (λ s here w. flat_does old.geometry (nor.bytes old.nor.now) s)
       (λ none. call.framed.untouched fresh none)
@@ -130,13 +131,13 @@ module _ {N : Type 0} {nor : NorOf N} {old new : View N nor} (slots : List FdSlo
       (λ w e. absurd (let no : None ≡ Some w = e in cc)) (λ s here write other. absurd (other refl)) (λ s here write. absurd (let no : false ≡ true = write in cc))
 
   -- collection is stuck
-  pub gc_stuck : Stepped stopped old new (Ok true) packing → Goes nor old.geometry Collects old.nor.now new.nor.now slots slots new.wrote (Refuses FsTight)
+  pub gc_stuck : Stepped stopped old new (Ok true) (packing (nor.device_writes old.nor.now) (nor.device_writes new.nor.now)) → Goes nor old.geometry Collects old.nor.now new.nor.now slots slots new.wrote (Refuses FsTight)
   gc_stuck call = goes_by Collects (Refuses FsTight) new.wrote
       (gc_refused old.geometry FsTight slots new.wrote refl (stop_slots FsTight tt))
       (gc_cuts call)
       (gc_upkeep call)
       (λ s here no_fault whole. absurd (whole (record { why = inl refl; doable = flat_does old.geometry (nor.bytes old.nor.now) s; tight = refl })))
-      (λ s here is. record { packed = λ e. absurd (cc); stuck = λ e. call.ends here.tells here.tidy })
+      (λ s here is. record { packed = λ e. absurd (cc); stuck = λ e. (call.ends here.tells here.tidy).0; swept = λ whole. (call.ends here.tells here.tidy).1 })
       (λ s here corner tight. absurd (no_corner old.geometry (nor.bytes old.nor.now) s corner))
       (λ s here w. flat_does old.geometry (nor.bytes old.nor.now) s)
       (λ none. call.framed.untouched fresh none)
@@ -145,7 +146,7 @@ module _ {N : Type 0} {nor : NorOf N} {old new : View N nor} (slots : List FdSlo
       (λ w e. absurd (let no : None ≡ Some w = e in cc)) (λ s here write other. absurd (other refl)) (λ s here write. absurd (let no : false ≡ true = write in cc))
 
   -- the device failed, or a page read otherwise
-  pub gc_broken : (why : StepErr) → Stepped stopped old new (Err why) packing → Goes nor old.geometry Collects old.nor.now new.nor.now slots slots new.wrote (Refuses (as_fs_err why))
+  pub gc_broken : (why : StepErr) → Stepped stopped old new (Err why) (packing (nor.device_writes old.nor.now) (nor.device_writes new.nor.now)) → Goes nor old.geometry Collects old.nor.now new.nor.now slots slots new.wrote (Refuses (as_fs_err why))
   gc_broken why call =
       let means = step_stops why call.means in
       goes_by Collects (Refuses (as_fs_err why)) new.wrote
@@ -153,7 +154,7 @@ module _ {N : Type 0} {nor : NorOf N} {old new : View N nor} (slots : List FdSlo
       (gc_cuts call)
       (gc_upkeep call)
       (λ s here no_fault whole. absurd (no_fault (ap (λ (w : StepErr). Refuses (as_fs_err w)) (call.ends here.tells here.tidy))))
-      (λ s here is. record { packed = λ e. absurd (cc); stuck = λ e. absurd (never_tight why (refuses_same (as_fs_err why) FsTight e)) })
+      (λ s here is. record { packed = λ e. absurd (cc); stuck = λ e. absurd (never_tight why (refuses_same (as_fs_err why) FsTight e)); swept = λ whole. absurd (whole (ap (λ (w : StepErr). Refuses (as_fs_err w)) (call.ends here.tells here.tidy))) })
       (λ s here corner tight. absurd (no_corner old.geometry (nor.bytes old.nor.now) s corner))
       (λ s here w. flat_does old.geometry (nor.bytes old.nor.now) s)
       (λ none. call.framed.untouched fresh none)

@@ -49,11 +49,11 @@ use Rattle.room_laws.specs.Recovery.{Recovers}
 use Rattle.room_laws.proofs.Staying.{reserve_mends}
 use Rattle.file_calls.specs.States.{IsImageOf}
 use Rattle.file_calls.specs.Collecting.{MayStop, refusing, RoomCut}
-use Rattle.file_calls.specs.Cleans.{index_taken, CleansFor, Taken, CleansInTurns, Turned, WritesNoTail}
+use Rattle.file_calls.specs.Cleans.{index_taken, rest_taken, CleansFor, Taken, CleansInTurns, Turned, WritesNoTail}
 use Rattle.file_calls.proofs.Numbered.{name_of_slots, names_barred, numbered_fine, numbered_refused}
 use Rattle.file_calls.specs.Goes.{CallCut, Reaches, IsDoable, IsCornerOn, StopsShort, StaysAt, IsCollected, IsGiven, Goes}
 use Rattle.file_calls.proofs.CleansBy.{cleans_as, cleans_reads, taken_as, taken_after}
-use Rattle.file_calls.proofs.TurnsBy.{index_few, some_among, few_once, few_more, turns_none, turns_once, turns_as, turned_after}
+use Rattle.file_calls.proofs.TurnsBy.{index_few, rest_few, some_among, few_once, few_more, turns_none, turns_once, turns_as, turned_after}
 
 -- the exit of a `?` that gives one error
 pub err_is : {T E : Type 0} {why : E} (r : Result T E) → IsErrAnd r (λ e. e ≡ why) → r ≡ Err why
@@ -260,11 +260,11 @@ module _ {D : Type 0} {nor : NorOf D} {g : Geometry} {slots : List FdSlot} where
 
   -- what a call does, by its parts
   pub goes_by : {old new : D} {after : List FdSlot} (ask : Ask) (reply : Answer) (wrote : Bool) → IsFit g ask slots after wrote reply → Changes nor old new (λ was image. (s : State) → IsImageOf nor g old slots s → CallCut g s ask was image) →
-      Changes nor old new (λ was image. (s : State) → IsImageOf nor g old slots s → Upkeep g was image) → ((s : State) → IsImageOf nor g old slots s → (reply ≡ Refuses DeviceFault → ⊥) → (StopsShort g (nor.bytes old) s ask reply → ⊥) → Reaches nor g old new after s ask reply) → ((s : State) → IsImageOf nor g old slots s → ask ≡ Collects → IsCollected g reply (nor.bytes old) (nor.bytes new)) →
+      Changes nor old new (λ was image. (s : State) → IsImageOf nor g old slots s → Upkeep g was image) → ((s : State) → IsImageOf nor g old slots s → (reply ≡ Refuses DeviceFault → ⊥) → (StopsShort g (nor.bytes old) s ask reply → ⊥) → Reaches nor g old new after s ask reply) → ((s : State) → IsImageOf nor g old slots s → ask ≡ Collects → IsCollected g reply (nor.bytes old) (nor.bytes new) (nor.device_writes old) (nor.device_writes new)) →
       ((s : State) → IsImageOf nor g old slots s → IsCornerOn g (nor.bytes old) s ask → reply ≡ Refuses Tight → StaysAt nor g new after s) → ((s : State) → IsImageOf nor g old slots s → wrote ≡ true → IsDoable g (nor.bytes old) s ask) → (wrote ≡ false → OnlyReads nor old new) → (reply ≡ Refuses DeviceFault → Rose (nor.faults old) (nor.faults new)) →
       ((d : Differ) → reply ≡ Refuses (Damaged d) → (d.wanted ≢ d.found) × ((s : State) → IsImageOf nor g old slots s → ⊥)) → (is_change ask ≡ false → wrote ≡ false) →
       ((why : FsErr) → slots_fault g (descriptors slots) ask ≡ Some why → new ≡ old) →
-      ((s : State) → IsImageOf nor g old slots s → is_write ask ≡ false → (ask ≡ Collects → ⊥) → CleansFor nor g (index_taken ask) 0 old new (reply ≡ Refuses DeviceFault)) → TurnsFor nor g old new slots ask reply → Goes nor g ask old new slots after wrote reply
+      ((s : State) → IsImageOf nor g old slots s → is_write ask ≡ false → (ask ≡ Collects → ⊥) → CleansFor nor g (index_taken ask) 0 (rest_taken g ask) old new (reply ≡ Refuses DeviceFault)) → TurnsFor nor g old new slots ask reply → Goes nor g ask old new slots after wrote reply
   goes_by ask reply wrote fit cuts upkeep answers collects cornered begun untouched cause differs looks quiet cleans turns = record {
     does = record {
       cuts = cuts;
@@ -509,7 +509,7 @@ step_fails {why = why} call = fails_as call (fault_is why) (λ e. ap as_fs_err e
 
 -- the blocks that a call cleaned which is no write
 abbrev pub CleansIn : {N : Type 0} {nor : NorOf N} (old new : View N nor) (slots : List FdSlot) (ask : Ask) (reply : Answer) → Type 0
-CleansIn {nor = nor} old new slots ask reply = (s : State) → IsImageOf nor old.geometry old.nor.now slots s → is_write ask ≡ false → CleansFor nor old.geometry (index_taken ask) 0 old.nor.now new.nor.now (reply ≡ Refuses DeviceFault)
+CleansIn {nor = nor} old new slots ask reply = (s : State) → IsImageOf nor old.geometry old.nor.now slots s → is_write ask ≡ false → CleansFor nor old.geometry (index_taken ask) 0 (rest_taken old.geometry ask) old.nor.now new.nor.now (reply ≡ Refuses DeviceFault)
 
 -- a call that the flat table does publishes a step, unless it is for garbage collection
 pub some_steps : (g : Geometry) (image : List ℕ) (s : State) (ask : Ask) → is_flat ask ≡ true → IsDoable g image s ask → 1 ≤ length (steps g (has_spare g image) s ask)
@@ -526,10 +526,14 @@ pub record IsTurned {D : Type 0} (nor : NorOf D) (g : Geometry) (ready : Geometr
 -- a call that took its step after a look
 module _ {N : Type 0} {nor : NorOf N} {old mid new : View N nor} {slots : List FdSlot} {step : Step (Unit {0})} {moved : List (Option Open)} (ask : Ask) (reply : Answer) (flat : is_flat ask ≡ true) (change : is_change ask ≡ true) (fine : slots_fault old.geometry (descriptors slots) ask ≡ None)
     (does : IsStep nor old.geometry slots ask reply moved old.nor.now step) (looks : OnlyLooks old mid) (fresh : old.wrote ≡ false) where
+  -- by the geometry before the look
+  after_looks : {T E : Type 0} {errors : Errors E} {r : Result T E} {taking : Step T} → Taken errors (index_taken ask) 0 (rest_taken mid.geometry ask) mid new r taking → Taken errors (index_taken ask) 0 (rest_taken old.geometry ask) old new r taking
+  after_looks {errors = errors} {r = r} {taking = taking} taken = subst (λ (k : Geometry). Taken {nor = nor} errors (index_taken ask) 0 (rest_taken k ask) old new r taking) looks.same.geometry (taken_after looks taken)
+
   -- the pages of no write were had in one turn
-  once : {E : Type 0} {errors : Errors E} {r : Result (Unit {0}) E} {broken : Type 0} → Taken errors (index_taken ask) 0 old new r step → (IsErr r → broken) → (s : State) → IsImageOf nor old.geometry old.nor.now slots s →
+  once : {E : Type 0} {errors : Errors E} {r : Result (Unit {0}) E} {broken : Type 0} → Taken errors (index_taken ask) 0 (rest_taken old.geometry ask) old new r step → (IsErr r → broken) → (s : State) → IsImageOf nor old.geometry old.nor.now slots s → is_write ask ≡ true →
       CleansInTurns nor old.geometry (WritesNoTail old.geometry (nor.bytes old.nor.now) s ask) (length (steps old.geometry (has_spare old.geometry (nor.bytes old.nor.now)) s ask)) old.nor.now new.nor.now broken
-  once call on s here = turns_once (index_few ask) (omega arith) (few_once (some_steps old.geometry (nor.bytes old.nor.now) s ask flat (does.doable s here))) (cleans_as on (call.cleans here.tells (does.can s here)))
+  once call on s here write = turns_once (index_few ask) (omega arith) (rest_few old.geometry ask write) (few_once (some_steps old.geometry (nor.bytes old.nor.now) s ask flat (does.doable s here))) (cleans_as on (call.cleans here.tells (does.can s here)))
 
   -- those of a write in turns
   in_turns : {E : Type 0} {errors : Errors E} {ready : Geometry → List ℕ → Type 0} {parts : ℕ} {r : Result (Unit {0}) E} {broken : Type 0} → IsTurned nor old.geometry ready parts old.nor.now slots ask → Turned errors ready parts old new r step → (IsErr r → broken) → (s : State) → IsImageOf nor old.geometry old.nor.now slots s →
@@ -566,11 +570,11 @@ module _ {N : Type 0} {nor : NorOf N} {old mid new : View N nor} {slots : List F
       (λ d e. absurd (no_refusal reply (Damaged d) other e)) (λ look. absurd (let no : true ≡ false = sym change ∙ look in cc))
       (λ why e. absurd (let no : None ≡ Some why = sym fine ∙ e in cc)) (λ s here write none. cleaned s here write) turns
 
-  pub goes_done : (last : List FdSlot) → descriptors last ≡ moved → is_refusal reply ≡ false → may_answer ask reply ≡ true → ((bytes : List ℕ) → reply ≡ Gives bytes → ⊥) → (keeps_slots ask ≡ true → last ≡ slots) → Taken stopped (index_taken ask) 0 mid new (Ok tt) step → Goes nor old.geometry ask old.nor.now new.nor.now slots last new.wrote reply
+  pub goes_done : (last : List FdSlot) → descriptors last ≡ moved → is_refusal reply ≡ false → may_answer ask reply ≡ true → ((bytes : List ℕ) → reply ≡ Gives bytes → ⊥) → (keeps_slots ask ≡ true → last ≡ slots) → Taken stopped (index_taken ask) 0 (rest_taken mid.geometry ask) mid new (Ok tt) step → Goes nor old.geometry ask old.nor.now new.nor.now slots last new.wrote reply
   goes_done last moves other may no_bytes keeps taken =
-      let call = taken_after looks taken in
+      let call = after_looks taken in
       done_by last moves other may no_bytes keeps call.steps (λ s here write. cleans_as (λ e. absurd (let no : false ≡ true = e in cc)) (call.cleans here.tells (does.can s here)))
-      (λ s here write. once call (λ e. absurd (let no : false ≡ true = e in cc)) s here)
+      (λ s here write. once call (λ e. absurd (let no : false ≡ true = e in cc)) s here write)
 
   -- that of a write
   pub goes_written : is_write ask ≡ true → (last : List FdSlot) → descriptors last ≡ moved → is_refusal reply ≡ false → may_answer ask reply ≡ true → ((bytes : List ℕ) → reply ≡ Gives bytes → ⊥) → (keeps_slots ask ≡ true → last ≡ slots) →
@@ -600,18 +604,18 @@ module _ {N : Type 0} {nor : NorOf N} {old mid new : View N nor} {slots : List F
       (λ d e. let is = refuses_same why (Damaged d) e in (stop_apart why d call.means is, λ s here. let no : Damaged d ≡ DeviceFault = sym is ∙ call.ends here.tells (does.can s here) in cc)) (λ look. absurd (let no : true ≡ false = sym change ∙ look in cc))
       (λ v e. absurd (let no : None ≡ Some v = sym fine ∙ e in cc)) (λ s here write none. cleaned s here write) turns
 
-  taken_broken : (why : FsErr) → may_answer ask (Refuses why) ≡ true → Taken refusing (index_taken ask) 0 old new (Err why) step → Goes nor old.geometry ask old.nor.now new.nor.now slots slots new.wrote (Refuses why)
+  taken_broken : (why : FsErr) → may_answer ask (Refuses why) ≡ true → Taken refusing (index_taken ask) 0 (rest_taken old.geometry ask) old new (Err why) step → Goes nor old.geometry ask old.nor.now new.nor.now slots slots new.wrote (Refuses why)
   taken_broken why may call = broken_by why may call.steps
       (λ s here write. cleans_as (λ e. ap (λ (w : FsErr). Refuses w) (call.steps.ends here.tells (does.can s here))) (call.cleans here.tells (does.can s here)))
-      (λ s here write. once call (λ e. ap (λ (w : FsErr). Refuses w) (call.steps.ends here.tells (does.can s here))) s here)
+      (λ s here write. once call (λ e. ap (λ (w : FsErr). Refuses w) (call.steps.ends here.tells (does.can s here))) s here write)
 
   -- the device failed in the step, or a page read otherwise
-  pub goes_broken : (why : StepErr) → may_answer ask (Refuses DeviceFault) ≡ true → Taken stopped (index_taken ask) 0 mid new (Err why) step → Goes nor old.geometry ask old.nor.now new.nor.now slots slots new.wrote (Refuses (as_fs_err why))
-  goes_broken why may taken = taken_broken (as_fs_err why) (step_among ask why change may) (taken_after looks (taken_as taken (step_fails taken.steps) (λ tells need. need) (λ e. e)))
+  pub goes_broken : (why : StepErr) → may_answer ask (Refuses DeviceFault) ≡ true → Taken stopped (index_taken ask) 0 (rest_taken mid.geometry ask) mid new (Err why) step → Goes nor old.geometry ask old.nor.now new.nor.now slots slots new.wrote (Refuses (as_fs_err why))
+  goes_broken why may taken = taken_broken (as_fs_err why) (step_among ask why change may) (after_looks (taken_as taken (step_fails taken.steps) (λ tells need. need) (λ e. e)))
 
   -- .. or there was too little room
-  pub goes_stopped : (why : FsErr) → may_answer ask (Refuses DeviceFault) ≡ true → may_answer ask (Refuses Tight) ≡ true → Taken refusing (index_taken ask) 0 mid new (Err why) step → Goes nor old.geometry ask old.nor.now new.nor.now slots slots new.wrote (Refuses why)
-  goes_stopped why may tight taken = taken_broken why (stop_among ask why taken.steps.means change may tight) (taken_after looks taken)
+  pub goes_stopped : (why : FsErr) → may_answer ask (Refuses DeviceFault) ≡ true → may_answer ask (Refuses Tight) ≡ true → Taken refusing (index_taken ask) 0 (rest_taken mid.geometry ask) mid new (Err why) step → Goes nor old.geometry ask old.nor.now new.nor.now slots slots new.wrote (Refuses why)
+  goes_stopped why may tight taken = taken_broken why (stop_among ask why taken.steps.means change may tight) (after_looks taken)
 
   -- .. in a write
   pub goes_unwritten : is_write ask ≡ true → (why : FsErr) → may_answer ask (Refuses DeviceFault) ≡ true → may_answer ask (Refuses Tight) ≡ true →

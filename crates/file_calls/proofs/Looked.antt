@@ -31,7 +31,7 @@ module _ {D : Type 0} {nor : NorOf D} {g : Geometry} {old mid : D} (reads : Only
   does_from call = record {
     cuts = wider (after_reads reads call.cuts) (λ tells image cut s here. cut s (reads_stay s reads here));
     upkeep = wider (after_reads reads call.upkeep) (λ tells image kept s here. kept s (reads_stay s reads here));
-    collects = λ s here is. rw reads.bytes at (call.collects s (reads_stay s reads here) is);
+    collects = λ s here is. rw (reads.bytes, reads.writes) at (call.collects s (reads_stay s reads here) is);
     cornered = λ s here corner tight. call.cornered s (reads_stay s reads here) (rw (sym reads.bytes) at corner) tight;
     begun = λ s here w. rw reads.bytes at (call.begun s (reads_stay s reads here) w);
     untouched = λ none. reads_then reads (call.untouched none);

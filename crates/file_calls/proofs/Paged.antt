@@ -33,7 +33,7 @@ use Rattle.file_calls.specs.Cleans.{Taken}
 use Rattle.file_calls.specs.Goes.{IsDoable}
 use Rattle.file_calls.specs.Cuts.{JobCut}
 use Rattle.file_calls.specs.Refusals.{has_room_beside, page_lack}
-use Rattle.file_calls.proofs.CleansBy.{LeavesBlocksBy, taken_as, taken_then}
+use Rattle.file_calls.proofs.CleansBy.{LeavesBlocksBy, taken_as, taken_then, taken_within}
 use Rattle.file_calls.proofs.Going.{IsOneStep, one_step, one_does, before_or_after, IsStep, tidy_sound}
 
 -- nothing stands against a call that leaves so many more index pages
@@ -132,13 +132,13 @@ with_room step = record {
 }
 
 -- no page was had
-pub with_page_not_had : {N : Type 0} {nor : NorOf N} {old mid : View N nor} {step : Step (Unit {0})} {why : FsErr} → Taken refusing 1 0 old mid (Err why) taking_page → Taken refusing 1 0 old mid (Err why) (with_room step)
-with_page_not_had call = taken_as call (fails_as call.steps (λ e. e) (λ e. e) call.steps.means (λ tells need. record { needs = need.0; cut = λ c cut. inl cut })) (λ tells need. need.0) (λ e. e)
+pub with_page_not_had : {N : Type 0} {nor : NorOf N} {old mid : View N nor} {step : Step (Unit {0})} {why : FsErr} → Taken refusing 1 0 0 old mid (Err why) taking_page → {rest : ℕ} → Taken refusing 1 0 rest old mid (Err why) (with_room step)
+with_page_not_had call = taken_within (omega arith) (taken_as call (fails_as call.steps (λ e. e) (λ e. e) call.steps.means (λ tells need. record { needs = need.0; cut = λ c cut. inl cut })) (λ tells need. need.0) (λ e. e))
 
 module _ {N : Type 0} {nor : NorOf N} {old mid new : View N nor} {step : Step (Unit {0})} where
   -- one was, and the step was taken, which cleans no block
-  pub with_page_had : {E : Type 0} {errors : Errors E} {r : Result (Unit {0}) E} → LeavesBlocksBy step → Taken refusing 1 0 old mid (Ok tt) taking_page → Stepped errors mid new r step → Taken errors 1 0 old new r (with_room step)
-  with_page_had spare first next = taken_then spare first next
+  pub with_page_had : {E : Type 0} {errors : Errors E} {r : Result (Unit {0}) E} {rest : ℕ} → LeavesBlocksBy step → nor.device_writes new.nor.now ≤ nor.device_writes mid.nor.now + rest → Taken refusing 1 0 0 old mid (Ok tt) taking_page → Stepped errors mid new r step → Taken errors 1 0 rest old new r (with_room step)
+  with_page_had spare few first next = taken_then spare few first next
       (λ tells need. record { needs = need.0; cut = λ c cut. inl cut })
       (λ tells need made. record { needs = need.1 (nor.bytes mid.nor.now) made; cut = λ c cut. inr (nor.bytes mid.nor.now, made, cut); done = λ c x done. (nor.bytes mid.nor.now, made, done) })
 

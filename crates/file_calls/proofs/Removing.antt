@@ -1,5 +1,5 @@
 -- The file that a remove takes out, and what it leaves.
-use Rattle.std.proofs.Common.{◌≡◌, ℕ, ◌==◌, List, [], ◌∷◌, Bool, true, refl, sym, ◌∙◌, ap, subst, arith}
+use Rattle.std.proofs.Common.{◌≡◌, ℕ, ◌+◌, ◌≤◌, ◌==◌, List, [], ◌∷◌, Bool, true, refl, sym, ◌∙◌, ap, subst, arith}
 use Rattle.std.specs.Prelude.{Option, Some, None, is_some, map, Result}
 use Rattle.std.specs.Option.{option_map}
 use Rattle.geometry.specs.declared.geometry.Geometry.{Geometry}
@@ -120,5 +120,5 @@ module _ {D : Type 0} {nor : NorOf D} {g : Geometry} {old : D} {slots : List FdS
   }
 
 -- no page is taken for it
-pub removal_taken : {N E : Type 0} {nor : NorOf N} {errors : Errors E} {old new : View N nor} {r : Result (Unit {0}) E} {id : ℕ} → Stepped errors old new r (removing id) → Taken errors 0 0 old new r (removing id)
-removal_taken {old = old} call = untaken call (λ tells can. room_stays old.geometry _ can.tidy) (λ h was image cut. remove_leaves cut)
+pub removal_taken : {N E : Type 0} {nor : NorOf N} {errors : Errors E} {old new : View N nor} {r : Result (Unit {0}) E} {id rest : ℕ} → Stepped errors old new r (removing id) → nor.device_writes new.nor.now ≤ nor.device_writes old.nor.now + rest → Taken errors 0 0 rest old new r (removing id)
+removal_taken {old = old} call few = untaken call (λ tells can. room_stays old.geometry _ can.tidy) (λ h was image cut. remove_leaves cut) few

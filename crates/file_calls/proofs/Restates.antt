@@ -30,7 +30,7 @@ use Rattle.fd_table.specs.Slots.{descriptors, opened}
 use Rattle.page_renew.specs.declared.edits.Edit.{Edit}
 use Rattle.page_renew.specs.declared.edits.Edit.TheVariants.{Name, Meta}
 use Rattle.page_renew.specs.Restated.{restates, restated, restating}
-use Rattle.file_calls.specs.Cleans.{index_taken}
+use Rattle.file_calls.specs.Cleans.{index_taken, rest_taken}
 use Rattle.file_calls.specs.Replies.{is_change, may_answer, may_meet, MeetsPage}
 use Rattle.file_calls.specs.States.{IsImageOf}
 use Rattle.file_calls.specs.Restatings.{is_restating, restated_as, IsRestating}
@@ -142,12 +142,13 @@ pub record IsSort (ask : Ask) : Type 0 where
   pub fault : may_answer ask (Refuses DeviceFault) ≡ true
   pub tight : may_answer ask (Refuses Tight) ≡ true
   pub taken : index_taken ask ≡ 1
+  pub rest : (g : Geometry) → rest_taken g ask ≡ 6
   pub meets : (why : FsErr) → MeetsPage why → may_meet ask why ≡ true
 
 pub sort_is : (ask : Ask) → is_restating ask ≡ true → IsSort ask
-sort_is (Renames old_name new_name) e = record { flat = refl; change = refl; done = refl; fault = refl; tight = refl; taken = refl; meets = λ why may. (may old_name new_name 0 0 0).3 }
-sort_is (SetsMeta name meta) e = record { flat = refl; change = refl; done = refl; fault = refl; tight = refl; taken = refl; meets = λ why may. (may name meta 0 0 0).4 }
-sort_is (SetsMetaOpen fd meta) e = record { flat = refl; change = refl; done = refl; fault = refl; tight = refl; taken = refl; meets = λ why may. (may [] meta 0 fd 0).5 }
+sort_is (Renames old_name new_name) e = record { flat = refl; change = refl; done = refl; fault = refl; tight = refl; taken = refl; rest = λ g. refl; meets = λ why may. (may old_name new_name 0 0 0).3 }
+sort_is (SetsMeta name meta) e = record { flat = refl; change = refl; done = refl; fault = refl; tight = refl; taken = refl; rest = λ g. refl; meets = λ why may. (may name meta 0 0 0).4 }
+sort_is (SetsMetaOpen fd meta) e = record { flat = refl; change = refl; done = refl; fault = refl; tight = refl; taken = refl; rest = λ g. refl; meets = λ why may. (may [] meta 0 fd 0).5 }
 sort_is _ e = absurd (let no : false ≡ true = e in cc)
 
 one_step_of : (g : Geometry) (s : State) (ask : Ask) (files : List File) → is_restating ask ≡ true → done_steps g s ask files ≡ files ∷ []

@@ -46,10 +46,10 @@ stands_cornered {nor = nor} {old = old} {new = new} {id = id} {size = size} {f =
 
 module _ {N : Type 0} {nor : NorOf N} {old new : View N nor} (slots : List FdSlot) where
   -- garbage was collected, or collection is stuck
-  pub stands_collected : {stuck : Bool} (told : Answer) → Stepped stopped old new (Ok stuck) packing → StandsOn nor old.geometry old.nor.now slots told old.counted new.counted
+  pub stands_collected : {stuck : Bool} {x y : ℕ} (told : Answer) → Stepped stopped old new (Ok stuck) (packing x y) → StandsOn nor old.geometry old.nor.now slots told old.counted new.counted
   stands_collected told call = λ s here no_fault stood. call.stands here.tells here.tidy stood
 
-  pub stands_uncollected : (why : StepErr) → Stepped stopped old new (Err why) packing → StandsOn nor old.geometry old.nor.now slots (Refuses (as_fs_err why)) old.counted new.counted
+  pub stands_uncollected : {x y : ℕ} (why : StepErr) → Stepped stopped old new (Err why) (packing x y) → StandsOn nor old.geometry old.nor.now slots (Refuses (as_fs_err why)) old.counted new.counted
   stands_uncollected why call = λ s here no_fault stood. absurd (no_fault (ap (λ (w : StepErr). Refuses (as_fs_err w)) (call.ends here.tells here.tidy)))
 
 -- since a look as since before it

@@ -7,7 +7,8 @@ use Rattle.nor_core.specs.declared.state.NorState.{Ghosts as NorOf}
 use Rattle.nor_core.specs.Device.{OnlyReads}
 use Rattle.nor_core.proofs.Cuts.{reads_then, reads_none}
 use Rattle.table_model.specs.Table.{File}
-use Rattle.table_model.specs.Ask.{Ask, Creates, Opens, Truncates, Renames, SetsMeta, SetsMetaOpen}
+use Rattle.table_model.specs.Ask.{Ask, Creates, Opens, Truncates, Removes, RemovesOpen, Renames, SetsMeta, SetsMetaOpen}
+use Rattle.file_calls.specs.Replies.{is_write}
 use Rattle.table_model.specs.Window.{IsAmong}
 use Rattle.image_model.specs.Collect.{are_had, blocks_for, free_where, takes_index, takes_data}
 use Rattle.image_model.specs.Tidy.{free_blocks}
@@ -19,7 +20,7 @@ use Rattle.flash_view.specs.declared.view.View.{View}
 use Rattle.flash_view.specs.Same.{OnlyLooks}
 use Rattle.flash_view.specs.Steps.{Step, Errors, Stepped, Begins, Finishes}
 use Rattle.flash_view.proofs.Stepped.{after_look, stepped_then, passes}
-use Rattle.file_calls.specs.Cleans.{index_taken, CleansFor, Taken, TurnsAlong, IsFew, CleansInTurns, Turned}
+use Rattle.file_calls.specs.Cleans.{index_taken, rest_taken, turn_most, CleansFor, Taken, TurnsAlong, IsFew, CleansInTurns, Turned}
 use Rattle.file_calls.proofs.CleansBy.{cleans_as, cleans_read}
 
 -- ---- fewer pages
@@ -48,6 +49,18 @@ index_few (SetsMeta name meta) = omega arith
 index_few (SetsMetaOpen fd meta) = omega arith
 index_few _ = omega arith
 
+-- .. and a write has no rest but in its turns
+pub rest_few : (g : Geometry) (ask : Ask) → is_write ask ≡ true → rest_taken g ask ≤ turn_most
+rest_few g (Creates name) write = absurd (cc)
+rest_few g (Opens name flags) write = absurd (cc)
+rest_few g (Truncates fd size) write = absurd (cc)
+rest_few g (Removes name) write = absurd (cc)
+rest_few g (RemovesOpen fd) write = absurd (cc)
+rest_few g (Renames old_name new_name) write = absurd (cc)
+rest_few g (SetsMeta name meta) write = absurd (cc)
+rest_few g (SetsMetaOpen fd meta) write = absurd (cc)
+rest_few g _ write = omega arith
+
 -- a list with a member has one
 pub some_among : (t : List File) (us : List (List File)) → IsAmong t us → 1 ≤ length us
 unfolding IsAmong
@@ -58,15 +71,16 @@ some_among t (u ∷ us) among = omega arith
 
 module _ {D : Type 0} {nor : NorOf D} {g : Geometry} where
   -- blocks that are cleaned for few pages are cleaned for these
-  cleans_more : {i p : ℕ} {old new : D} {P : Type 0} → i ≤ 2 → p ≤ 16 → CleansFor nor g i p old new P → CleansFor nor g 2 16 old new P
-  cleans_more {i} {p} {old} less fewer call = record {
+  cleans_more : {i p k : ℕ} {old new : D} {P : Type 0} → i ≤ 2 → p ≤ 16 → k ≤ turn_most → CleansFor nor g i p k old new P → CleansFor nor g 2 16 turn_most old new P
+  cleans_more {i} {p} {k} {old} less fewer short call = record {
     mid = call.mid;
     first = call.first;
     idle = λ ready. call.idle (ready_less g (nor.bytes old) i p 2 16 less fewer ready);
     needed = λ whole.
         let w = call.needed whole in
-        record { swept = w.swept; few = w.few; needed = none_more (λ image. IsReady g image i p) (λ image. IsReady g image 2 16) w.swept.through (λ image ready. ready_less g image i p 2 16 less fewer ready) w.needed };
-    rest = call.rest;
+        record { swept = w.swept; lower = w.lower; most = w.most; few = w.few; needed = none_more (λ image. IsReady g image i p) (λ image. IsReady g image 2 16) w.swept.through (λ image ready. ready_less g image i p 2 16 less fewer ready) w.needed };
+    few = let few = call.few in omega (arith, few, short);
+    rest_cut = call.rest_cut;
     none = λ no_index no_pages. absurd (let no : 2 ≡ 0 = no_index in omega (arith, no));
   }
 
@@ -96,7 +110,7 @@ module _ {D : Type 0} (nor : NorOf D) (g : Geometry) where
   along_then old mid new P (from ∷ more) before first along = (along_then old mid from ⊥ more before first along.0, along.1)
 
   -- one turn
-  along_once : (old new : D) (P : Type 0) → CleansFor nor g 2 16 old new P → TurnsAlong nor g old new P (old ∷ [])
+  along_once : (old new : D) (P : Type 0) → CleansFor nor g 2 16 turn_most old new P → TurnsAlong nor g old new P (old ∷ [])
   unfolding TurnsAlong
   along_once old new P call = (reads_none old, call)
 
@@ -118,8 +132,8 @@ module _ {D : Type 0} {nor : NorOf D} {g : Geometry} where
   turns_none {old = old} {new = new} {P = P} reads = record { turns = []; along = along_none nor g old new P reads; few = few_none }
 
   -- with one turn
-  pub turns_once : {ready : Type 0} {parts i p : ℕ} {old new : D} {P : Type 0} → i ≤ 2 → p ≤ 16 → IsFew ready parts 1 → CleansFor nor g i p old new P → CleansInTurns nor g ready parts old new P
-  turns_once {old = old} {new = new} {P = P} less fewer few call = record { turns = old ∷ []; along = along_once nor g old new P (cleans_more less fewer call); few = few }
+  pub turns_once : {ready : Type 0} {parts i p k : ℕ} {old new : D} {P : Type 0} → i ≤ 2 → p ≤ 16 → k ≤ turn_most → IsFew ready parts 1 → CleansFor nor g i p k old new P → CleansInTurns nor g ready parts old new P
+  turns_once {old = old} {new = new} {P = P} less fewer short few call = record { turns = old ∷ []; along = along_once nor g old new P (cleans_more less fewer short call); few = few }
 
   -- broken off where another is, and no more than so many
   pub turns_as : {ready other : Type 0} {parts more : ℕ} {old new : D} {P Q : Type 0} → (P → Q) → ((n : ℕ) → IsFew ready parts n → IsFew other more n) → CleansInTurns nor g ready parts old new P → CleansInTurns nor g other more old new Q
@@ -153,9 +167,9 @@ module _ {N : Type 0} {nor : NorOf N} where
   turned_none looks call = record { steps = call; cleans = λ tells need. turns_none looks.reads }
 
   -- one
-  pub turned_once : {T E : Type 0} {errors : Errors E} {ready : Geometry → List ℕ → Type 0} {parts i p : ℕ} {old new : View N nor} {r : Result T E} {step : Step T} → i ≤ 2 → p ≤ 16 →
-      (nor.tells old.nor.now → step.needs old.geometry (nor.bytes old.nor.now) → IsFew (ready old.geometry (nor.bytes old.nor.now)) parts 1) → Taken errors i p old new r step → Turned errors ready parts old new r step
-  turned_once less fewer few call = record { steps = call.steps; cleans = λ tells need. turns_once less fewer (few tells need) (call.cleans tells need) }
+  pub turned_once : {T E : Type 0} {errors : Errors E} {ready : Geometry → List ℕ → Type 0} {parts i p k : ℕ} {old new : View N nor} {r : Result T E} {step : Step T} → i ≤ 2 → p ≤ 16 → k ≤ turn_most →
+      (nor.tells old.nor.now → step.needs old.geometry (nor.bytes old.nor.now) → IsFew (ready old.geometry (nor.bytes old.nor.now)) parts 1) → Taken errors i p k old new r step → Turned errors ready parts old new r step
+  turned_once less fewer short few call = record { steps = call.steps; cleans = λ tells need. turns_once less fewer short (few tells need) (call.cleans tells need) }
 
   -- another step was taken by the same call
   pub turned_as : {S T D E : Type 0} {before : Errors D} {errors : Errors E} {ready other : Geometry → List ℕ → Type 0} {parts more : ℕ} {old new : View N nor} {r : Result S D} {q : Result T E} {first : Step S} {whole : Step T} → Turned before ready parts old new r first → Stepped errors old new q whole →

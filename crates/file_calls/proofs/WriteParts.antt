@@ -32,7 +32,7 @@ use Rattle.flash_view.specs.Steps.{Step, Errors, Stepped, stopped, Begins, Finis
 use Rattle.flash_view.proofs.Stepped.{ends_as, weaker}
 use Rattle.file_calls.specs.Collecting.{RoomCut, CanTakePages, refusing, taking_pages}
 use Rattle.file_calls.specs.Cuts.{JobCut}
-use Rattle.file_calls.specs.Cleans.{Taken, IsFew, Turned, NeedsNoTail}
+use Rattle.file_calls.specs.Cleans.{Taken, IsFew, Turned, turn_most, NeedsNoTail}
 use Rattle.file_calls.specs.Writings.{CanWritePart, CanHaveTail, HasTail, CanNeedTail, writing_part, having_tail, needing_tail}
 use Rattle.file_calls.proofs.CleansBy.{step_leaves, taken_passes, taken_then}
 use Rattle.file_calls.proofs.TurnsBy.{few_once, turned_once, turned_passes, turned_never, turned_then}
@@ -256,13 +256,13 @@ pages_few g at count is = let few = needed_few g at in omega (arith, few, is)
 -- over a view
 module _ {N : Type 0} {nor : NorOf N} {old new : View N nor} {r : Result (Unit {0}) FsErr} (id at : ℕ) (bytes : List ℕ) (f : File) (end : at ≡ length f.bytes) (count pages : ℕ) (is : count ≡ index_needed old.geometry at) (pages_is : pages ≡ data_pages old.geometry (length bytes)) (room : length bytes ≤ append_room old.geometry at) where
   -- no pages were had
-  pub paged_not : {e : FsErr} → Taken refusing count pages old new (Err e) (taking_pages count pages) → r ≡ Err e → Turned refusing (λ g was. Unit {0}) 1 old new r (writing_part id true at bytes f)
-  paged_not call same = turned_once (pages_few old.geometry at count is) (let most = room_pages old.geometry at (length bytes) room in omega (arith, most, pages_is)) (λ tells can. few_once (omega arith)) (taken_passes call same (λ tells can. pages_begin old.geometry (nor.bytes old.nor.now) id at bytes f can end count pages is pages_is))
+  pub paged_not : {e : FsErr} → Taken refusing count pages 0 old new (Err e) (taking_pages count pages) → r ≡ Err e → Turned refusing (λ g was. Unit {0}) 1 old new r (writing_part id true at bytes f)
+  paged_not call same = turned_once (pages_few old.geometry at count is) (let most = room_pages old.geometry at (length bytes) room in omega (arith, most, pages_is)) (omega arith) (λ tells can. few_once (omega arith)) (taken_passes call same (λ tells can. pages_begin old.geometry (nor.bytes old.nor.now) id at bytes f can end count pages is pages_is))
 
   -- .. or they were, and then the page step was taken
-  pub paged_then : {mid : View N nor} {x : Unit {0}} → Taken refusing count pages old mid (Ok x) (taking_pages count pages) → Stepped refusing mid new r (appending id bytes f) → Turned refusing (λ g was. Unit {0}) 1 old new r (writing_part id true at bytes f)
-  paged_then {mid} call next = turned_once (pages_few old.geometry at count is) (let most = room_pages old.geometry at (length bytes) room in omega (arith, most, pages_is)) (λ tells can. few_once (omega arith))
-      (taken_then (λ g was image cut. step_leaves cut) call next
+  pub paged_then : {mid : View N nor} {x : Unit {0}} → nor.device_writes new.nor.now ≤ nor.device_writes mid.nor.now + turn_most → Taken refusing count pages 0 old mid (Ok x) (taking_pages count pages) → Stepped refusing mid new r (appending id bytes f) → Turned refusing (λ g was. Unit {0}) 1 old new r (writing_part id true at bytes f)
+  paged_then {mid} few call next = turned_once (pages_few old.geometry at count is) (let most = room_pages old.geometry at (length bytes) room in omega (arith, most, pages_is)) (omega arith) (λ tells can. few_once (omega arith))
+      (taken_then (λ g was image cut. step_leaves cut) few call next
       (λ tells can. pages_begin old.geometry (nor.bytes old.nor.now) id at bytes f can end count pages is pages_is)
       (λ tells can made. pages_end old.geometry (nor.bytes old.nor.now) id at bytes f can end count pages is pages_is (nor.bytes mid.nor.now) made))
 
@@ -289,13 +289,13 @@ no_step call never = weaker call (λ tells need. absurd (never tells need))
 
 -- bytes that begin inside a file end there where they are one part of a write
 pub part_inside : {N : Type 0} {nor : NorOf N} {old new : View N nor} {r : Result (Unit {0}) FsErr} (id : ℕ) (known : Bool) (at : ℕ) (bytes : List ℕ) (f : File) → at < length f.bytes →
-    ((e : File) → at + length bytes ≤ length e.bytes → Taken refusing 1 1 old new r (writing_part id known at bytes e)) → Turned refusing (NeedsNoTail id (length f.bytes) (at + length bytes)) 1 old new r (writing_part id known at bytes f)
+    ((e : File) → at + length bytes ≤ length e.bytes → Taken refusing 1 1 12 old new r (writing_part id known at bytes e)) → Turned refusing (NeedsNoTail id (length f.bytes) (at + length bytes)) 1 old new r (writing_part id known at bytes f)
 part_inside id known at bytes f low call = ⊎_elim
     (λ (past : length f.bytes < at + length bytes).
     let some : File = record f { bytes = replicate (at + length bytes) 0 } in
     let never : (g : Geometry) (was : List ℕ) → CanWritePart g was id known at bytes f → ⊥ = λ g was can. ⊎_elim (λ (inside : (at + length bytes ≤ length f.bytes) × (at % body g + length bytes ≤ body g)). omega (arith, inside.0, past)) (λ (end : (at ≡ length f.bytes) × (length bytes ≤ append_room g at)). omega (arith, end.0, low)) can.inside in
     turned_never (no_step (call some (let e = length-replicate {A = ℕ} (at + length bytes) 0 in omega (arith, e))).steps (λ tells can. never _ _ can)) (λ tells can. never _ _ can))
-    (λ (inside : at + length bytes ≤ length f.bytes). turned_once (omega arith) (omega arith) (λ tells can. few_once (omega arith)) (call f inside))
+    (λ (inside : at + length bytes ≤ length f.bytes). turned_once (omega arith) (omega arith) (omega arith) (λ tells can. few_once (omega arith)) (call f inside))
     (cases_lt (length f.bytes) (at + length bytes))
 
 -- and others begin at its end

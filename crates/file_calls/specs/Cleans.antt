@@ -1,18 +1,17 @@
 -- Which blocks a call cleans for the pages that it takes.
-use Rattle.std.specs.Prelude.{◌≡◌, ℕ, ◌+◌, ◌≤◌, ◌⊎◌, List, [], ◌∷◌, length, replicate, Option, Some, Result, IsErr}
+use Rattle.std.specs.Prelude.{◌≡◌, ℕ, ◌+◌, ◌*◌, ◌≤◌, ◌⊎◌, List, [], ◌∷◌, length, replicate, Option, Some, Result, IsErr}
 use Rattle.geometry.specs.declared.geometry.Geometry.{Geometry}
-use Rattle.geometry.specs.Numbers.{body}
+use Rattle.geometry.specs.Numbers.{body, usable}
 use Rattle.nor_core.specs.declared.state.NorState.{Ghosts as NorOf}
 use Rattle.nor_core.specs.Device.{Changes, OnlyReads}
 use Rattle.table_model.specs.Table.{File, Open, State}
 use Rattle.table_model.specs.Descriptors.{open_at}
 use Rattle.table_model.specs.Files.{write_place}
-use Rattle.table_model.specs.Ask.{Ask, Creates, Opens, Writes, Fills, Truncates, Renames, SetsMeta, SetsMetaOpen}
+use Rattle.table_model.specs.Ask.{Ask, Creates, Opens, Writes, Fills, Truncates, Removes, RemovesOpen, Renames, SetsMeta, SetsMetaOpen}
 use Rattle.table_model.specs.Steps.{part_ends, open_file}
 use Rattle.image_model.specs.Tidy.{HasReserve}
 use Rattle.renew_laws.specs.Tails.{IsTailReady}
-use Rattle.room_laws.specs.Stopping.{gc_measure}
-use Rattle.block_gc.specs.RoomMade.{SweptTo, NoneIs, IsReady}
+use Rattle.block_gc.specs.RoomMade.{SweptWhile, IsReady}
 use Rattle.trim_laws.specs.Wear.{SameWear}
 use Rattle.flash_view.specs.declared.view.View.{View}
 use Rattle.flash_view.specs.Steps.{Step, Errors, Stepped}
@@ -28,46 +27,64 @@ index_taken (SetsMeta name meta) = 1
 index_taken (SetsMetaOpen fd meta) = 1
 index_taken _ = 0
 
+-- the most programs of a call that is no write, beside those of its cleanings: two for each page that it kills, six for a page that it renews,
+-- and four for one that it puts
+abbrev pub rest_taken : Geometry → Ask → ℕ
+rest_taken g (Creates name) = 4
+rest_taken g (Opens name flags) = 6 + 2 * usable g
+rest_taken g (Truncates fd size) = 6 + 2 * usable g
+rest_taken g (Removes name) = 3 + 2 * usable g
+rest_taken g (RemovesOpen fd) = 3 + 2 * usable g
+rest_taken g (Renames old_name new_name) = 6
+rest_taken g (SetsMeta name meta) = 6
+rest_taken g (SetsMetaOpen fd meta) = 6
+rest_taken g _ = 0
+
 -- Blocks were cleaned, one after the other, and each cleaning began where so many pages of each kind weren't had or fewer than two blocks
--- were free. The number that cleanings lower (gc_measure) fell by as many as there were, at least.
-pub record SweptFor (g : Geometry) (index pages : ℕ) (was now : List ℕ) : Type 0 where
-  pub swept : SweptTo g was now
-  pub few : gc_measure g now + length swept.through ≤ gc_measure g was
-  pub needed : NoneIs (λ image. IsReady g image index pages) swept.through
+-- were free. By the counts of programs and erases before and after.
+abbrev pub SweptFor : Geometry → (index pages : ℕ) → (was now : List ℕ) → (before after : ℕ) → Type 0
+SweptFor g index pages was now before after = SweptWhile g (λ image. IsReady g image index pages) was now before after
 
 -- Two free blocks stay free, and no block is made fresh.
 pub record LeavesBlocks (g : Geometry) (was image : List ℕ) : Type 0 where
   pub reserve : HasReserve g was → HasReserve g image
   pub wear : SameWear g was image
 
--- A call, or a turn of one, has a first part in which it cleans blocks for so many pages of each kind: up to where the device is `mid`.
-pub record CleansFor {D : Type 0} (nor : NorOf D) (g : Geometry) (index pages : ℕ) (old new : D) (broken : Type 0) : Type 0 where
+-- A call, or a turn of one, has a first part in which it cleans blocks for so many pages of each kind: up to where the device is `mid`. From there
+-- on it takes so many programs and erases at most.
+pub record CleansFor {D : Type 0} (nor : NorOf D) (g : Geometry) (index pages rest : ℕ) (old new : D) (broken : Type 0) : Type 0 where
   pub mid : D
   -- a cut up to there keeps the image, and where two blocks were free it recovers
   pub first : Changes nor old mid (RoomCut g)
   -- where the pages are had and two blocks are free already, nothing is programmed or erased up to there
   pub idle : IsReady g (nor.bytes old) index pages → OnlyReads nor old mid
   -- each cleaning begins where that isn't so, where the call isn't broken off
-  pub needed : ¬ broken → SweptFor g index pages (nor.bytes old) (nor.bytes mid)
+  pub needed : ¬ broken → SweptFor g index pages (nor.bytes old) (nor.bytes mid) (nor.device_writes old) (nor.device_writes mid)
+  pub few : nor.device_writes new ≤ nor.device_writes mid + rest
   -- from there on two blocks stay free where two are, and no block is made fresh, at each cut
-  pub rest : Changes nor mid new (LeavesBlocks g)
+  pub rest_cut : Changes nor mid new (LeavesBlocks g)
   -- where it takes no pages it cleans no block: from its beginning on two blocks stay free where two are, and no block is made fresh, at each cut
   pub none : index ≡ 0 → pages ≡ 0 → Changes nor old new (LeavesBlocks g)
 
 -- A call over a view took that step, and cleaned blocks for so many pages of each kind before it.
-pub record Taken {N T E : Type 0} {nor : NorOf N} (errors : Errors E) (index pages : ℕ) (old new : View N nor) (result : Result T E)
+pub record Taken {N T E : Type 0} {nor : NorOf N} (errors : Errors E) (index pages rest : ℕ) (old new : View N nor) (result : Result T E)
     (step : Step T) : Type 0 where
   pub steps : Stepped errors old new result step
   pub cleans : nor.tells old.nor.now → step.needs old.geometry (nor.bytes old.nor.now) →
-      CleansFor nor old.geometry index pages old.nor.now new.nor.now (IsErr result)
+      CleansFor nor old.geometry index pages rest old.nor.now new.nor.now (IsErr result)
 
 -- ---- writes
+
+-- the most programs of a turn of a write, beside those of its cleanings: four for each of at most 16 pages that are put, and six for the header
+-- page that is renewed once for all of them; a single page takes fewer
+abbrev pub turn_most : ℕ
+turn_most = 70
 
 -- Only reads between two moments, or turns of cleaning: these are the moments where each turn began, the last one first. A turn cleans for two
 -- index pages and the data pages of one page step at most, and one that another follows wasn't broken off.
 unfoldable pub TurnsAlong : {D : Type 0} → NorOf D → Geometry → (old new : D) → (broken : Type 0) → List D → Type 0
 TurnsAlong nor g old new broken [] = OnlyReads nor old new
-TurnsAlong nor g old new broken (from ∷ more) = TurnsAlong nor g old from ⊥ more × CleansFor nor g 2 16 from new broken
+TurnsAlong nor g old new broken (from ∷ more) = TurnsAlong nor g old from ⊥ more × CleansFor nor g 2 16 turn_most from new broken
 
 -- So many turns a write takes: one for each of its parts at most, and one more where a tail is to be made ready. `ready` says that none is.
 pub record IsFew (ready : Type 0) (parts turns : ℕ) : Type 0 where

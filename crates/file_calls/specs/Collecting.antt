@@ -7,7 +7,7 @@ use Rattle.image_model.specs.Tidy.{IsTidy, HasReserve}
 use Rattle.image_model.specs.Sound.{Keeps}
 use Rattle.room_laws.specs.Stopping.{HasRoomFor}
 use Rattle.room_laws.specs.Recovery.{Recovers}
-use Rattle.block_gc.specs.RoomMade.{MadeRoom, IsTight, IsCompact, IsStuck}
+use Rattle.block_gc.specs.RoomMade.{SweptWhile, Never, MadeRoom, IsTight, IsCompact, IsStuck}
 use Rattle.flash_view.specs.Steps.{Step, Errors}
 
 -- Why a step of a call is not done: the device failed, there is too little room, or a page reads otherwise than it was written, which two
@@ -67,5 +67,6 @@ taking_page = taking_pages 1 0
 abbrev pub seeking_page : Step Bool
 seeking_page = record { needs = IsSettled; cut = RoomCut; done = λ g was now had. PageOrNone g had was now }
 
-abbrev pub packing : Step Bool
-packing = record { needs = IsTidy; cut = RoomCut; done = λ g was now stuck. PackedOrStuck g stuck was now }
+abbrev pub packing : (before after : ℕ) → Step Bool
+packing before after =
+    record { needs = IsTidy; cut = RoomCut; done = λ g was now stuck. PackedOrStuck g stuck was now × SweptWhile g Never was now before after }

@@ -19,7 +19,7 @@ use Rattle.image_model.specs.Tidy.{HasReserve, has_spare}
 use Rattle.image_model.specs.Sound.{IsSound}
 use Rattle.room_laws.specs.Recovery.{Recovers}
 use Rattle.image_model.specs.Collect.{chosen_block}
-use Rattle.block_gc.specs.RoomMade.{IsCompact, IsReady}
+use Rattle.block_gc.specs.RoomMade.{SweptWhile, Never, IsCompact, IsReady}
 use Rattle.fd_table.specs.declared.slot.FdSlot.{FdSlot}
 use Rattle.trim_laws.specs.Upkeep.{Upkeep}
 use Rattle.fd_table.specs.Slots.{descriptors}
@@ -27,7 +27,7 @@ use Rattle.file_calls.specs.Replies.{may_answer, is_change, is_write, keeps_slot
 use Rattle.file_calls.specs.Slots.{slots_fault, IsNumbered}
 use Rattle.file_calls.specs.States.{IsImageOf}
 use Rattle.file_calls.specs.Collecting.{IsStuckAt}
-use Rattle.file_calls.specs.Cleans.{index_taken, CleansFor, CleansInTurns, WritesNoTail}
+use Rattle.file_calls.specs.Cleans.{index_taken, rest_taken, CleansFor, CleansInTurns, WritesNoTail}
 
 -- What a cut in a call may leave of a volume at a state, on which nothing waits: an image that is sound with respect to the one before,
 -- with the table of the state or of a step of the call. Where two blocks were free it recovers: an uncut check gives two.
@@ -72,10 +72,12 @@ pub record StaysAt {D : Type 0} (nor : NorOf D) (g : Geometry) (new : D) (after 
   pub none : chosen_block g (nor.bytes new) ≡ None
   pub short : IsReady g (nor.bytes new) 1 0 → ⊥
 
--- Where garbage collection stops: done, the image is packed; Tight, it is stuck.
-pub record IsCollected (g : Geometry) (reply : Answer) (was now : List ℕ) : Type 0 where
+-- Where garbage collection stops: done, the image is packed; Tight, it is stuck. Unless the device failed, it took no more programs and erases
+-- than its cleanings.
+pub record IsCollected (g : Geometry) (reply : Answer) (was now : List ℕ) (before after : ℕ) : Type 0 where
   pub packed : reply ≡ Fine → IsCompact g was now
   pub stuck : reply ≡ Refuses Tight → IsStuckAt g was now
+  pub swept : ¬ (reply ≡ Refuses DeviceFault) → SweptWhile g Never was now before after
 
 -- bytes that are given to a read, no more than it asks for
 pub record IsGiven (ask : Ask) (bytes : List ℕ) : Type 0 where
@@ -91,7 +93,7 @@ pub record Does {D : Type 0} (nor : NorOf D) (g : Geometry) (ask : Ask) (old new
   -- where no header page named a page behind the last one of its file, none does, at a cut and after the call; and no erase count changes but
   -- by making blocks fresh, each with the next count
   pub upkeep : Changes nor old new (λ was image. (s : State) → IsImageOf nor g old slots s → Upkeep g was image)
-  pub collects : (s : State) → IsImageOf nor g old slots s → ask ≡ Collects → IsCollected g reply (nor.bytes old) (nor.bytes new)
+  pub collects : (s : State) → IsImageOf nor g old slots s → ask ≡ Collects → IsCollected g reply (nor.bytes old) (nor.bytes new) (nor.device_writes old) (nor.device_writes new)
   -- Tight for want of a page for a cut, the call has changed nothing but where pages stand
   pub cornered : (s : State) → IsImageOf nor g old slots s → IsCornerOn g (nor.bytes old) s ask → reply ≡ Refuses Tight → StaysAt nor g new after s
   pub begun : (s : State) → IsImageOf nor g old slots s → wrote ≡ true → IsDoable g (nor.bytes old) s ask
@@ -111,7 +113,7 @@ pub record Does {D : Type 0} (nor : NorOf D) (g : Geometry) (ask : Ask) (old new
   -- is had and two blocks are free, and each where that isn't so. From there on two free blocks stay free, and no block is made fresh; a call that
   -- takes no index page, such as a remove, cleans none
   pub cleans : (s : State) → IsImageOf nor g old slots s → is_write ask ≡ false → ask ≢ Collects →
-      CleansFor nor g (index_taken ask) 0 old new (reply ≡ Refuses DeviceFault)
+      CleansFor nor g (index_taken ask) 0 (rest_taken g ask) old new (reply ≡ Refuses DeviceFault)
   -- and a write cleans in turns, one for each step that it publishes at most, and one more where the tail of its file is to be made ready: each has
   -- such a first part, for two index pages and one data page, and no block is made fresh from there to the end of the turn
   pub turns : (s : State) → IsImageOf nor g old slots s → is_write ask ≡ true →

@@ -17,14 +17,14 @@ use table_model::FsErr;
 
 /// Collects garbage until an index page is had and two blocks are free, and none where that is so already.
 pub(crate) fn take_page<N: Nor>(v: &mut View<'_, N>) -> Result<(), FsErr>
-    ensures { Taken refusing 1 0 v.old v.new result taking_page }
+    ensures { Taken refusing 1 0 0 v.old v.new result taking_page }
 {
     take_pages(v, 1, 0)
 }
 
 /// The same for so many index pages and data pages.
 pub(crate) fn take_pages<N: Nor>(v: &mut View<'_, N>, index: u32, pages: u32) -> Result<(), FsErr>
-    ensures { Taken refusing index pages v.old v.new result (taking_pages index pages) }
+    ensures { Taken refusing index pages 0 v.old v.new result (taking_pages index pages) }
 {
     match make_room(v, index, pages) {
         Ok(()) => Ok(()),
@@ -35,7 +35,7 @@ pub(crate) fn take_pages<N: Nor>(v: &mut View<'_, N>, index: u32, pages: u32) ->
 
 /// Collects garbage for an index page where the table may have no room for one, and tells whether it is had.
 pub(crate) fn seek_page<N: Nor>(v: &mut View<'_, N>) -> Result<bool, StepErr>
-    ensures { Taken stopped 1 0 v.old v.new result seeking_page }
+    ensures { Taken stopped 1 0 0 v.old v.new result seeking_page }
 {
     match make_room(v, 1, 0) {
         Ok(()) => Ok(true),
@@ -46,7 +46,7 @@ pub(crate) fn seek_page<N: Nor>(v: &mut View<'_, N>) -> Result<bool, StepErr>
 
 // Cleans blocks until none is worth cleaning, and tells whether collection is stuck before that.
 fn pack<N: Nor>(v: &mut View<'_, N>) -> Result<bool, StepErr>
-    ensures { Stepped stopped v.old v.new result packing }
+    ensures { Stepped stopped v.old v.new result (packing (N.device_writes v.old.nor.now) (N.device_writes v.new.nor.now)) }
 {
     match compact(v) {
         Ok(()) => Ok(false),

@@ -1,4 +1,5 @@
-ghost use Rattle.std.specs.Prelude.{◌≡◌, ◌<◌, ℕ, List, false};
+ghost use Rattle.std.specs.Prelude.{◌≡◌, ◌+◌, ◌*◌, ◌<◌, ℕ, List, false};
+ghost use Rattle.geometry.specs.Numbers.{usable};
 ghost use Rattle.table_model.specs.Table.{File};
 ghost use Rattle.table_model.specs.Ask.{Truncates};
 ghost use Rattle.flash_view.specs.Same.{IsSameView};
@@ -23,7 +24,7 @@ use table_model::FsErr;
 /// had no room before.
 pub(crate) fn cut_file<N: Nor>(v: &mut View<'_, N>, id: u16, size: u32) -> Result<bool, StepErr>
     requires { size < 0xFFFFFFFF }
-    ensures { (f : File) → Taken stopped 1 0 v.old v.new result (cutting id size f) }
+    ensures { (f : File) → Taken stopped 1 0 (6 + 2 * usable v.old.geometry) v.old v.new result (cutting id size f) }
 {
     if !seek_page(v)? {
         return Ok(false);

@@ -24,7 +24,7 @@ use table_model::FsErr;
 // Overwrites bytes of a file inside one data page, once pages are had.
 fn overwrite_part<N: Nor>(v: &mut View<'_, N>, id: u16, at: u32, bytes: &[u8]) -> Result<(), FsErr>
     ensures { (known : Bool) (f : File) → at + length bytes.now ≤ length f.bytes →
-        Taken refusing 1 1 v.old v.new result (writing_part id known at bytes.now f) }
+        Taken refusing 1 1 12 v.old v.new result (writing_part id known at bytes.now f) }
 {
     take_pages(v, 1, 1)?;
     overwrite_step(v, id, at, bytes)?;

@@ -56,7 +56,7 @@ use Rattle.ix_map.specs.Maps.{no_map}
 use Rattle.volume.specs.Mapping.{RefillsTo}
 use Rattle.volume.specs.Calls.{HasRun, HasNone, Calls}
 use Rattle.volume.proofs.KnownMaps.{keeps_none, keeps_broken, keeps_refilled}
-use Rattle.file_calls.specs.Cleans.{index_taken, CleansFor, CleansInTurns, WritesNoTail}
+use Rattle.file_calls.specs.Cleans.{index_taken, rest_taken, CleansFor, CleansInTurns, WritesNoTail}
 use Rattle.file_calls.proofs.CleansBy.{cleans_reads}
 use Rattle.file_calls.proofs.Going.{refuses_same, room_stays}
 use Rattle.volume.proofs.Staying.{same_then, same_none}
@@ -482,7 +482,7 @@ module _ {N : Type 0} {nor : NorOf N} where
       counted = λ m takes here no_fault before. counts m.state (image_mid m here) no_fault (settles.counted m here before);
       answers = λ m takes here no_fault whole. answered_by m here no_fault whole;
       refused = λ m takes none here no_fault whole refusal. refused_by m none here no_fault whole refusal;
-      collects = λ m takes none here is. subst (λ (v : Volume N nor). IsCollected old.geometry reply (nor.bytes v.nor.now) (nor.bytes new.nor.now)) (settles.idle none).1 (acts.does.collects m.state (image_mid m here) is);
+      collects = λ m takes none here is. subst (λ (v : Volume N nor). IsCollected old.geometry reply (nor.bytes v.nor.now) (nor.bytes new.nor.now) (nor.device_writes v.nor.now) (nor.device_writes new.nor.now)) (settles.idle none).1 (acts.does.collects m.state (image_mid m here) is);
       packed = λ m takes here is fine. let p = (acts.does.collects m.state (image_mid m here) is).packed fine in record { worth = p.worth; packed = p.packed; free = p.free; unstuck = p.unstuck };
       unstuck = λ m takes here reserve is tight. ((acts.does.collects m.state (image_mid m here) is).stuck tight).short ((stood m here).1.reserve reserve);
       cornered = λ m takes here corner tight.
@@ -510,7 +510,7 @@ module _ {N : Type 0} {nor : NorOf N} where
       stops = λ m takes stopped here. stopped_by m stopped here;
       looks = λ look none. let unwritten = acts.does.looks look in (only_reads none unwritten, stage_stays (no_run none) unwritten);
       keeps = λ keeps. acts.does.keeps keeps ∙ settles.slots;
-      cleans = λ m takes none here write other. subst (λ (v : Volume N nor). CleansFor nor old.geometry (index_taken ask) 0 v.nor.now new.nor.now (reply ≡ Refuses DeviceFault)) (settles.idle none).1 (acts.does.cleans m.state (image_mid m here) write other);
+      cleans = λ m takes none here write other. subst (λ (v : Volume N nor). CleansFor nor old.geometry (index_taken ask) 0 (rest_taken old.geometry ask) v.nor.now new.nor.now (reply ≡ Refuses DeviceFault)) (settles.idle none).1 (acts.does.cleans m.state (image_mid m here) write other);
       turns = λ m takes none here write.
           let d : Volume N nor → Type 0 = λ v. CleansInTurns nor old.geometry (WritesNoTail old.geometry (nor.bytes v.nor.now) m.state ask) (length (steps old.geometry (has_spare old.geometry (nor.bytes v.nor.now)) m.state ask)) v.nor.now new.nor.now (reply ≡ Refuses DeviceFault) in
           subst d (settles.idle none).1 (acts.does.turns m.state (image_mid m here) write);

@@ -47,7 +47,7 @@ module _ {D : Type 0} {nor : NorOf D} {g : Geometry} {mid new : D} (reads : Only
     does_on did = record {
       cuts = read_after did.cuts reads;
       upkeep = read_after did.upkeep reads;
-      collects = λ s here is. subst (λ (l : List ℕ). IsCollected g reply (nor.bytes old) l) (sym reads.bytes) (did.collects s here is);
+      collects = λ s here is. subst (λ (n : ℕ). IsCollected g reply (nor.bytes old) (nor.bytes new) (nor.device_writes old) n) (sym reads.writes) (subst (λ (l : List ℕ). IsCollected g reply (nor.bytes old) l (nor.device_writes old) (nor.device_writes mid)) (sym reads.bytes) (did.collects s here is));
       cornered = λ s here corner tight.
           let w = did.cornered s here corner tight in
           record {

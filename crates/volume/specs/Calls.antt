@@ -23,7 +23,7 @@ use Rattle.volume.specs.Same.{IsSameVolume}
 use Rattle.fd_table.specs.Slots.{descriptors}
 use Rattle.file_calls.specs.Replies.{is_of_slots, may_answer, is_change, is_write, keeps_slots}
 use Rattle.file_calls.specs.Slots.{slots_fault}
-use Rattle.file_calls.specs.Cleans.{index_taken, CleansFor, CleansInTurns, WritesNoTail}
+use Rattle.file_calls.specs.Cleans.{index_taken, rest_taken, CleansFor, CleansInTurns, WritesNoTail}
 use Rattle.volume.specs.Replies.{may_settle, breaks}
 use Rattle.volume.specs.Holds.{memory, Holds}
 use Rattle.volume.specs.Mapping.{KeepsMap}
@@ -66,7 +66,7 @@ module _ {N : Type 0} {nor : NorOf N} where
         ¬ StopsShort old.geometry (nor.bytes old.nor.now) m.state ask reply → is_refusal reply ≡ true → Unchanged old new
     -- where garbage collection stops
     pub collects : (m : Moment) → takes_calls old ≡ true → HasNone old → Holds old m → ask ≡ Collects →
-        IsCollected old.geometry reply (nor.bytes old.nor.now) (nor.bytes new.nor.now)
+        IsCollected old.geometry reply (nor.bytes old.nor.now) (nor.bytes new.nor.now) (nor.device_writes old.nor.now) (nor.device_writes new.nor.now)
     -- done, it leaves no block that is worth cleaning, also where bytes waited
     pub packed : (m : Moment) → takes_calls old ≡ true → Holds old m → ask ≡ Collects → reply ≡ Fine → IsPackedNow old.geometry (nor.bytes new.nor.now)
     -- with two free blocks collection isn't stuck
@@ -111,7 +111,7 @@ module _ {N : Type 0} {nor : NorOf N} where
     -- index page that it takes is had and two blocks are free, and each where that isn't so. From there on two free blocks stay free, and no block
     -- is made fresh; a call that takes no index page, such as a remove, cleans none
     pub cleans : (m : Moment) → takes_calls old ≡ true → HasNone old → Holds old m → is_write ask ≡ false → ask ≢ Collects →
-        CleansFor nor old.geometry (index_taken ask) 0 old.nor.now new.nor.now (reply ≡ Refuses DeviceFault)
+        CleansFor nor old.geometry (index_taken ask) 0 (rest_taken old.geometry ask) old.nor.now new.nor.now (reply ≡ Refuses DeviceFault)
     -- and a write cleans in turns, one for each step that it publishes at most, and one more where the tail of its file is to be made ready: each
     -- has such a first part, for two index pages and one data page, and no block is made fresh from there to the end of the turn
     pub turns : (m : Moment) → takes_calls old ≡ true → HasNone old → Holds old m → is_write ask ≡ true →

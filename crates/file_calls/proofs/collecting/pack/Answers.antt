@@ -16,7 +16,7 @@ returns-in-Ok g c =
       upkeep = packed.upkeep;
       worn = λ tells tidy. cuts_whole _ _ _ (packed.upkeep.now tells tidy).wears (packed.done tells tidy).tidy.magic;
       stands = packed.stands;
-      ends = λ tells tidy. packed.done tells tidy;
+      ends = λ tells tidy. (packed.done tells tidy, packed.swept tells tidy);
     }
 
 pub returns-in-Err-Tight : goal.returns-in-Err-Tight
@@ -30,7 +30,7 @@ returns-in-Err-Tight g c =
       upkeep = short.upkeep;
       worn = λ tells tidy. cuts_whole _ _ _ (short.upkeep.now tells tidy).wears (short.tight tells tidy (ap (λ (w : RoomErr). Err w) c.in-Err-Tight.field-0-is)).tidy.magic;
       stands = λ tells tidy stood. rw c.in-Err-Tight.field-0-is at (short.stands tells tidy stood);
-      ends = λ tells tidy. record { stuck = short.tight tells tidy (ap (λ (w : RoomErr). Err w) c.in-Err-Tight.field-0-is); short = λ reserve. short.never_tight tells (view_can c.args.v.now (g.met.N.Nor.sized _) tells tidy reserve) c.in-Err-Tight.field-0-is };
+      ends = λ tells tidy. (record { stuck = short.tight tells tidy (ap (λ (w : RoomErr). Err w) c.in-Err-Tight.field-0-is); short = λ reserve. short.never_tight tells (view_can c.args.v.now (g.met.N.Nor.sized _) tells tidy reserve) c.in-Err-Tight.field-0-is }, rw c.in-Err-Tight.field-0-is at (short.swept tells tidy));
     }
 
 pub returns-in-Err-Step : goal.returns-in-Err-Step

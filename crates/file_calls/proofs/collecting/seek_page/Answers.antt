@@ -21,7 +21,7 @@ returns-in-Ok g c =
         stands = λ tells need stood. made.stands tells need.tidy stood;
         ends = λ tells need. made.done tells need.tidy;
       };
-      cleans = λ tells need. room_cleans c.args.v.now cuts need.tidy need.reserve (made.idle tells need.tidy) (λ whole. let w = made.done tells need.tidy in record { swept = w.swept; few = w.lower; needed = w.needed });
+      cleans = λ tells need. room_cleans c.args.v.now cuts need.tidy need.reserve (made.idle tells need.tidy) (λ whole. made.swept tells need.tidy);
     }
 
 pub returns-in-Err-Tight : goal.returns-in-Err-Tight
@@ -40,7 +40,7 @@ returns-in-Err-Tight g c =
         stands = λ tells need stood. rw is at (short.stands tells need.tidy stood);
         ends = λ tells need. (short.tight tells need.tidy (ap (λ (w : RoomErr). Err w) is), λ room. short.never_tight tells (view_can c.args.v.now (g.met.N.Nor.sized _) tells need.tidy need.reserve) room is);
       };
-      cleans = λ tells need. room_cleans c.args.v.now cuts need.tidy need.reserve (short.idle tells need.tidy) (λ whole. let w = short.tight tells need.tidy (ap (λ (w : RoomErr). Err w) is) in record { swept = w.swept; few = w.lower; needed = w.needed });
+      cleans = λ tells need. room_cleans c.args.v.now cuts need.tidy need.reserve (short.idle tells need.tidy) (λ whole. rw is at (short.swept tells need.tidy));
     }
 
 pub returns-in-Err-Step : goal.returns-in-Err-Step

@@ -23,7 +23,7 @@ returns-in-Ok g c =
         stands = λ tells need stood. made.stands tells need.tidy stood;
         ends = λ tells need. made.done tells need.tidy;
       };
-      cleans = λ tells need. room_cleans c.args.v.now cuts need.tidy need.reserve (made.idle tells need.tidy) (λ whole. let w = made.done tells need.tidy in record { swept = w.swept; few = w.lower; needed = w.needed });
+      cleans = λ tells need. room_cleans c.args.v.now cuts need.tidy need.reserve (made.idle tells need.tidy) (λ whole. made.swept tells need.tidy);
     }
 
 pub returns-in-Err-Tight : goal.returns-in-Err-Tight

@@ -35,32 +35,32 @@ returns-clause-goes g c =
     let looked = c.in_ok-id.ensures in
     let name = c.args.name.now in
     let fine = c.in_ok-accept.ensures.fine in
-    λ slots into. goes_done (Creates name) Fine refl refl fine (created_step c.args.v.now.geometry name fine c.in_ok-id.id (λ tells tidy. (looked.told tells tidy).0) (λ tells tidy. (looked.told tells tidy).1)) looked.looks c.requires.fresh slots refl refl refl (λ bytes e. absurd (cc)) (λ k. refl) (with_page_had (λ h was image cut. create_leaves cut) c.in_ok-take_page.ensures c.in_ok-create_step.ensures.step)
+    λ slots into. goes_done (Creates name) Fine refl refl fine (created_step c.args.v.now.geometry name fine c.in_ok-id.id (λ tells tidy. (looked.told tells tidy).0) (λ tells tidy. (looked.told tells tidy).1)) looked.looks c.requires.fresh slots refl refl refl (λ bytes e. absurd (cc)) (λ k. refl) (with_page_had (λ h was image cut. create_leaves cut) c.in_ok-create_step.ensures.few c.in_ok-take_page.ensures c.in_ok-create_step.ensures.step)
 
 pub returns-in_err-create_step-clause-goes : goal.returns-in_err-create_step-clause-goes
 returns-in_err-create_step-clause-goes g c =
     let looked = c.in_ok-id.ensures in
     let name = c.args.name.now in
     let fine = c.in_ok-accept.ensures.fine in
-    rw (err_is c.from_residual-in_err-create_step.result c.from_residual-in_err-create_step.ensures.1) (λ slots into. goes_broken (Creates name) Fine refl refl fine (created_step {slots = slots} c.args.v.now.geometry name fine c.in_ok-id.id (λ tells tidy. (looked.told tells tidy).0) (λ tells tidy. (looked.told tells tidy).1)) looked.looks c.requires.fresh c.in_err-create_step.field-0.0 refl (with_page_had (λ h was image cut. create_leaves cut) c.in_ok-take_page.ensures c.in_err-create_step.ensures.step))
+    rw (err_is c.from_residual-in_err-create_step.result c.from_residual-in_err-create_step.ensures.1) (λ slots into. goes_broken (Creates name) Fine refl refl fine (created_step {slots = slots} c.args.v.now.geometry name fine c.in_ok-id.id (λ tells tidy. (looked.told tells tidy).0) (λ tells tidy. (looked.told tells tidy).1)) looked.looks c.requires.fresh c.in_err-create_step.field-0.0 refl (with_page_had (λ h was image cut. create_leaves cut) c.in_err-create_step.ensures.few c.in_ok-take_page.ensures c.in_err-create_step.ensures.step))
 
 pub returns-in_err-take_page-clause-counted : goal.returns-in_err-take_page-clause-counted
 returns-in_err-take_page-clause-counted g c =
     let looked = c.in_ok-id.ensures in
     let name = c.args.name.now in
     let fine = c.in_ok-accept.ensures.fine in
-    rw (err_is c.from_residual-in_err-take_page.result c.from_residual-in_err-take_page.ensures.1) (λ slots into. stands_stopped (created_step {slots = slots} c.args.v.now.geometry name fine c.in_ok-id.id (λ tells tidy. (looked.told tells tidy).0) (λ tells tidy. (looked.told tells tidy).1)) looked.looks c.in_err-take_page.field-0.0 (with_page_not_had c.in_err-take_page.ensures).steps)
+    rw (err_is c.from_residual-in_err-take_page.result c.from_residual-in_err-take_page.ensures.1) (λ slots into. stands_stopped (created_step {slots = slots} c.args.v.now.geometry name fine c.in_ok-id.id (λ tells tidy. (looked.told tells tidy).0) (λ tells tidy. (looked.told tells tidy).1)) looked.looks c.in_err-take_page.field-0.0 (with_page_not_had c.in_err-take_page.ensures {rest = 0}).steps)
 
 pub returns-clause-counted : goal.returns-clause-counted
 returns-clause-counted g c =
     let looked = c.in_ok-id.ensures in
     let name = c.args.name.now in
     let fine = c.in_ok-accept.ensures.fine in
-    λ slots into. stands_done (created_step {slots = slots} c.args.v.now.geometry name fine c.in_ok-id.id (λ tells tidy. (looked.told tells tidy).0) (λ tells tidy. (looked.told tells tidy).1)) looked.looks Fine (with_page_had (λ h was image cut. create_leaves cut) c.in_ok-take_page.ensures c.in_ok-create_step.ensures.step).steps
+    λ slots into. stands_done (created_step {slots = slots} c.args.v.now.geometry name fine c.in_ok-id.id (λ tells tidy. (looked.told tells tidy).0) (λ tells tidy. (looked.told tells tidy).1)) looked.looks Fine (with_page_had (λ h was image cut. create_leaves cut) c.in_ok-create_step.ensures.few c.in_ok-take_page.ensures c.in_ok-create_step.ensures.step).steps
 
 pub returns-in_err-create_step-clause-counted : goal.returns-in_err-create_step-clause-counted
 returns-in_err-create_step-clause-counted g c =
     let looked = c.in_ok-id.ensures in
     let name = c.args.name.now in
     let fine = c.in_ok-accept.ensures.fine in
-    rw (err_is c.from_residual-in_err-create_step.result c.from_residual-in_err-create_step.ensures.1) (λ slots into. stands_broken (created_step {slots = slots} c.args.v.now.geometry name fine c.in_ok-id.id (λ tells tidy. (looked.told tells tidy).0) (λ tells tidy. (looked.told tells tidy).1)) looked.looks c.in_err-create_step.field-0.0 (with_page_had (λ h was image cut. create_leaves cut) c.in_ok-take_page.ensures c.in_err-create_step.ensures.step).steps)
+    rw (err_is c.from_residual-in_err-create_step.result c.from_residual-in_err-create_step.ensures.1) (λ slots into. stands_broken (created_step {slots = slots} c.args.v.now.geometry name fine c.in_ok-id.id (λ tells tidy. (looked.told tells tidy).0) (λ tells tidy. (looked.told tells tidy).1)) looked.looks c.in_err-create_step.field-0.0 (with_page_had (λ h was image cut. create_leaves cut) c.in_err-create_step.ensures.few c.in_ok-take_page.ensures c.in_err-create_step.ensures.step).steps)

@@ -1,4 +1,4 @@
-use Rattle.std.proofs.Common.{[], ◌≡◌, true, false, refl, ◌∙◌, None, Ok, Err}
+use Rattle.std.proofs.Common.{[], ◌≡◌, true, false, refl, ◌∙◌, None, Ok, Err, arith}
 use Rattle.std.proofs.lemmas.Bool.{lt-ltb}
 use Rattle.nor_core.proofs.Cuts.{reads_none}
 use Rattle.flash_view.proofs.Looking.{looks_then}
@@ -79,7 +79,7 @@ returns-clause-goes g c =
     let looked = c.in_ok-id-2.ensures in
     let told = looked_back (λ h image. Prepares h image (Ok c.in_ok-id-2.id)) found.looks looked.told in
     rw c.from.ensures (λ into. goes_done (Opens name c.args.flags) (Number c.in_ok-fd.fd) refl change (opens_fine c.args.v.now.geometry (descriptors c.args.slots.now) name fine c.args.flags c.in_ok-fd.ensures.told) (opened_step name c.args.flags fine c.in_ok-fd.fd c.in_ok-fd.ensures.told c.in_ok-id-2.id (λ tells tidy. rw none at (found.told tells tidy)) told) (looks_then found.looks looked.looks) c.requires.fresh
-    c.open_at.new.slots c.open_at.ensures refl (lt-ltb c.in_ok-fd.fd 65536 c.in_ok-fd.ensures.small) (λ bytes e. absurd (cc)) (λ k. absurd (let no : false ≡ true = k in cc)) (with_page_had (λ h was image cut. create_leaves cut) c.in_ok-take_page.ensures c.in_ok-create_step.ensures.step))
+    c.open_at.new.slots c.open_at.ensures refl (lt-ltb c.in_ok-fd.fd 65536 c.in_ok-fd.ensures.small) (λ bytes e. absurd (cc)) (λ k. absurd (let no : false ≡ true = k in cc)) (with_page_had (λ h was image cut. create_leaves cut) (let few = c.in_ok-create_step.ensures.few in omega (arith, few)) c.in_ok-take_page.ensures c.in_ok-create_step.ensures.step))
 
 pub returns-in_err-create_step-clause-goes : goal.returns-in_err-create_step-clause-goes
 returns-in_err-create_step-clause-goes g c =
@@ -91,7 +91,7 @@ returns-in_err-create_step-clause-goes g c =
     let change : is_change (Opens name c.args.flags) ≡ true = or_first _ (empties c.args.flags) making in
     let looked = c.in_ok-id-2.ensures in
     let told = looked_back (λ h image. Prepares h image (Ok c.in_ok-id-2.id)) found.looks looked.told in
-    rw (err_is c.from_residual-in_err-create_step.result c.from_residual-in_err-create_step.ensures.1) (λ into. goes_broken (Opens name c.args.flags) (Number c.in_ok-fd.fd) refl change (opens_fine c.args.v.now.geometry (descriptors c.args.slots.now) name fine c.args.flags c.in_ok-fd.ensures.told) (opened_step name c.args.flags fine c.in_ok-fd.fd c.in_ok-fd.ensures.told c.in_ok-id-2.id (λ tells tidy. rw none at (found.told tells tidy)) told) (looks_then found.looks looked.looks) c.requires.fresh c.in_err-create_step.field-0.0 refl (with_page_had (λ h was image cut. create_leaves cut) c.in_ok-take_page.ensures c.in_err-create_step.ensures.step))
+    rw (err_is c.from_residual-in_err-create_step.result c.from_residual-in_err-create_step.ensures.1) (λ into. goes_broken (Opens name c.args.flags) (Number c.in_ok-fd.fd) refl change (opens_fine c.args.v.now.geometry (descriptors c.args.slots.now) name fine c.args.flags c.in_ok-fd.ensures.told) (opened_step name c.args.flags fine c.in_ok-fd.fd c.in_ok-fd.ensures.told c.in_ok-id-2.id (λ tells tidy. rw none at (found.told tells tidy)) told) (looks_then found.looks looked.looks) c.requires.fresh c.in_err-create_step.field-0.0 refl (with_page_had (λ h was image cut. create_leaves cut) (let few = c.in_err-create_step.ensures.few in omega (arith, few)) c.in_ok-take_page.ensures c.in_err-create_step.ensures.step))
 
 pub returns-in-Some-clause-counted : goal.returns-in-Some-clause-counted
 returns-in-Some-clause-counted g c = λ into. stands_since c.in_ok-id.ensures.looks (c.open_found.ensures.counted into)
@@ -105,7 +105,7 @@ returns-in_err-take_page-clause-counted g c =
     let looked = c.in_ok-id-2.ensures in
     let told = looked_back (λ h image. Prepares h image (Ok c.in_ok-id-2.id)) found.looks looked.told in
     let does = opened_step name c.args.flags fine c.in_ok-fd.fd c.in_ok-fd.ensures.told c.in_ok-id-2.id (λ tells tidy. rw none at (found.told tells tidy)) told in
-    rw (err_is c.from_residual-in_err-take_page.result c.from_residual-in_err-take_page.ensures.1) (λ into. stands_stopped does (looks_then found.looks looked.looks) c.in_err-take_page.field-0.0 (with_page_not_had c.in_err-take_page.ensures).steps)
+    rw (err_is c.from_residual-in_err-take_page.result c.from_residual-in_err-take_page.ensures.1) (λ into. stands_stopped does (looks_then found.looks looked.looks) c.in_err-take_page.field-0.0 (with_page_not_had c.in_err-take_page.ensures {rest = 0}).steps)
 
 pub returns-clause-counted : goal.returns-clause-counted
 returns-clause-counted g c =
@@ -116,7 +116,7 @@ returns-clause-counted g c =
     let looked = c.in_ok-id-2.ensures in
     let told = looked_back (λ h image. Prepares h image (Ok c.in_ok-id-2.id)) found.looks looked.told in
     let does = opened_step name c.args.flags fine c.in_ok-fd.fd c.in_ok-fd.ensures.told c.in_ok-id-2.id (λ tells tidy. rw none at (found.told tells tidy)) told in
-    λ into. stands_done does (looks_then found.looks looked.looks) _ (with_page_had (λ h was image cut. create_leaves cut) c.in_ok-take_page.ensures c.in_ok-create_step.ensures.step).steps
+    λ into. stands_done does (looks_then found.looks looked.looks) _ (with_page_had (λ h was image cut. create_leaves cut) c.in_ok-create_step.ensures.few c.in_ok-take_page.ensures c.in_ok-create_step.ensures.step).steps
 
 pub returns-in_err-create_step-clause-counted : goal.returns-in_err-create_step-clause-counted
 returns-in_err-create_step-clause-counted g c =
@@ -127,4 +127,4 @@ returns-in_err-create_step-clause-counted g c =
     let looked = c.in_ok-id-2.ensures in
     let told = looked_back (λ h image. Prepares h image (Ok c.in_ok-id-2.id)) found.looks looked.told in
     let does = opened_step name c.args.flags fine c.in_ok-fd.fd c.in_ok-fd.ensures.told c.in_ok-id-2.id (λ tells tidy. rw none at (found.told tells tidy)) told in
-    rw (err_is c.from_residual-in_err-create_step.result c.from_residual-in_err-create_step.ensures.1) (λ into. stands_broken does (looks_then found.looks looked.looks) c.in_err-create_step.field-0.0 (with_page_had (λ h was image cut. create_leaves cut) c.in_ok-take_page.ensures c.in_err-create_step.ensures.step).steps)
+    rw (err_is c.from_residual-in_err-create_step.result c.from_residual-in_err-create_step.ensures.1) (λ into. stands_broken does (looks_then found.looks looked.looks) c.in_err-create_step.field-0.0 (with_page_had (λ h was image cut. create_leaves cut) c.in_err-create_step.ensures.few c.in_ok-take_page.ensures c.in_err-create_step.ensures.step).steps)

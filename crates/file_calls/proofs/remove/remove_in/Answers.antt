@@ -1,4 +1,4 @@
-use Rattle.std.proofs.Common.{[], ◌≡◌, true, false, refl, ◌∙◌}
+use Rattle.std.proofs.Common.{[], ◌≡◌, true, false, refl, ◌∙◌, arith}
 use Rattle.nor_core.proofs.Cuts.{reads_none}
 use Rattle.table_model.specs.Reply.{Fine}
 use Rattle.table_model.specs.Ask.{Removes}
@@ -24,13 +24,13 @@ pub returns-clause-goes : goal.returns-clause-goes
 returns-clause-goes g c =
     let looked = c.in_ok-id.ensures in
     let fine = c.in_ok-accept.ensures.fine in
-    λ into. goes_done (Removes c.args.name.now) Fine refl refl fine (remove_step c.args.name.now fine c.in_ok-id.id looked.told) looked.looks c.requires.fresh c.close_file.new.slots c.close_file.ensures refl refl (λ bytes e. absurd (cc)) (λ k. absurd (let no : false ≡ true = k in cc)) (removal_taken c.in_ok-remove_step.ensures.step)
+    λ into. goes_done (Removes c.args.name.now) Fine refl refl fine (remove_step c.args.name.now fine c.in_ok-id.id looked.told) looked.looks c.requires.fresh c.close_file.new.slots c.close_file.ensures refl refl (λ bytes e. absurd (cc)) (λ k. absurd (let no : false ≡ true = k in cc)) (removal_taken c.in_ok-remove_step.ensures.step (let few = c.in_ok-remove_step.ensures.most in omega (arith, few)))
 
 pub returns-in_err-remove_step-clause-goes : goal.returns-in_err-remove_step-clause-goes
 returns-in_err-remove_step-clause-goes g c =
     let looked = c.in_ok-id.ensures in
     let fine = c.in_ok-accept.ensures.fine in
-    rw (err_is c.from_residual-in_err-remove_step.result c.from_residual-in_err-remove_step.ensures.1) (λ into. goes_broken (Removes c.args.name.now) Fine refl refl fine (remove_step c.args.name.now fine c.in_ok-id.id looked.told) looked.looks c.requires.fresh c.in_err-remove_step.field-0.0 refl (removal_taken c.in_err-remove_step.ensures.step))
+    rw (err_is c.from_residual-in_err-remove_step.result c.from_residual-in_err-remove_step.ensures.1) (λ into. goes_broken (Removes c.args.name.now) Fine refl refl fine (remove_step c.args.name.now fine c.in_ok-id.id looked.told) looked.looks c.requires.fresh c.in_err-remove_step.field-0.0 refl (removal_taken c.in_err-remove_step.ensures.step (let few = c.in_err-remove_step.ensures.most in omega (arith, few))))
 
 pub returns-clause-counted : goal.returns-clause-counted
 returns-clause-counted g c =

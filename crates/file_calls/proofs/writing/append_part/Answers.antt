@@ -27,7 +27,7 @@ returns g c = λ f end.
     let pages = c.data_pages.ensures.pages ∙ ap (λ (k : Geometry). data_pages k (length c.args.bytes.now)) (sym tail.steps.framed.same.geometry) in
     let room : length c.args.bytes.now ≤ append_room c.need_tail.new.v.geometry c.args.size = rw tail.steps.framed.same.geometry c.requires in
     let needed = c.index_needed.ensures ∙ ap (λ (k : Geometry). index_needed k c.args.size) (sym tail.steps.framed.same.geometry) in
-    append_then c.args.id c.args.known c.args.size c.args.bytes.now f end tail (paged_then c.args.id c.args.size c.args.bytes.now f end c.index_needed.result c.data_pages.result needed pages room c.in_ok-take_pages.ensures (step_does (c.in_ok-append_step.ensures.step f)))
+    append_then c.args.id c.args.known c.args.size c.args.bytes.now f end tail (paged_then c.args.id c.args.size c.args.bytes.now f end c.index_needed.result c.data_pages.result needed pages room c.in_ok-append_step.ensures.few c.in_ok-take_pages.ensures (step_does (c.in_ok-append_step.ensures.step f)))
 
 pub returns-in_err-append_step : goal.returns-in_err-append_step
 returns-in_err-append_step g c = λ f end.
@@ -36,4 +36,4 @@ returns-in_err-append_step g c = λ f end.
     let room : length c.args.bytes.now ≤ append_room c.need_tail.new.v.geometry c.args.size = rw tail.steps.framed.same.geometry c.requires in
     let needed = c.index_needed.ensures ∙ ap (λ (k : Geometry). index_needed k c.args.size) (sym tail.steps.framed.same.geometry) in
     rw (err_is c.from_residual-in_err-append_step.result c.from_residual-in_err-append_step.ensures.1) (append_then c.args.id c.args.known c.args.size c.args.bytes.now f end tail
-    (paged_then c.args.id c.args.size c.args.bytes.now f end c.index_needed.result c.data_pages.result needed pages room c.in_ok-take_pages.ensures (step_fails (c.in_err-append_step.ensures.step f))))
+    (paged_then c.args.id c.args.size c.args.bytes.now f end c.index_needed.result c.data_pages.result needed pages room c.in_err-append_step.ensures.few c.in_ok-take_pages.ensures (step_fails (c.in_err-append_step.ensures.step f))))
