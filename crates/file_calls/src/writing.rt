@@ -84,7 +84,11 @@ fn append_part<N: Nor>(
 {
     let g = v.geometry;
     need_tail(v, id, known)?;
-    take_pages(v, index_needed(&g, size), data_pages(&g, bytes.len() as u32))?;
+    take_pages(
+        v,
+        index_needed(&g, size),
+        data_pages(&g, bytes.len() as u32),
+    )?;
     append_step(v, id, bytes)?;
     Ok(())
 }

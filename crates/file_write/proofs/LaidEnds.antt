@@ -109,16 +109,16 @@ module _ (g : Geometry) (a b : List ℕ) (id h size : ℕ) (bytes : List ℕ) (f
     beside = laid.beside;
     prime = laid.prime;
     grows = grows-in_many g a b id h can.head bytes f laid.beside (GrowBy end pages) laid.prime (record {
-          adds = tt;
-          takes = omega (arith, later, count, count_is);
-          size = grown;
-          some = can.can.some;
-          whole = none;
-          pages_are = λ y edited i low.
-              let below : i < n = (let b = part_below g (length bytes) i low in omega (arith, b, all)) in
-              let part = laid.parts i below in
-              (part.page, (named y edited i below part).1, part.is.holds);
-        });
+      adds = tt;
+      takes = omega (arith, later, count, count_is);
+      size = grown;
+      some = can.can.some;
+      whole = none;
+      pages_are = λ y edited i low.
+          let below : i < n = (let b = part_below g (length bytes) i low in omega (arith, b, all)) in
+          let part = laid.parts i below in
+          (part.page, (named y edited i below part).1, part.is.holds);
+    });
     serve = λ y edited r e.
         let o = laid.only r e in
         let part = laid.parts o.0 o.1 in

@@ -48,7 +48,11 @@ fn page_part<'a>(g: &Geometry, from: &'a [u8], i: usize) -> &'a [u8]
 {
     let body = g.body() as usize;
     let rest = &from[i * body..];
-    if rest.len() > body { &rest[..body] } else { rest }
+    if rest.len() > body {
+        &rest[..body]
+    } else {
+        rest
+    }
 }
 
 // Puts the data pages of these bytes, from a span on, and tells their numbers.

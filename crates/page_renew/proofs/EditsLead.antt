@@ -198,13 +198,13 @@ grows-in_one g a b id h head z bytes f beside edit prime grows = record {
   adds = grows.adds;
   takes = grows.takes;
   appends = λ y edited. one-page_appends g (own (live_at g b) id) head y bytes z (lengths g a b id h head f beside prime) (record {
-        some = grows.some;
-        fits = grows.fits;
-        size = edited.size ∙ grows.size;
-        words = words_kept g head y edit (length bytes) grows.size edited;
-        page = grows.page y edited;
-        holds = grows.holds;
-      });
+    some = grows.some;
+    fits = grows.fits;
+    size = edited.size ∙ grows.size;
+    words = words_kept g head y edit (length bytes) grows.size edited;
+    page = grows.page y edited;
+    holds = grows.holds;
+  });
 }
 
 pub grows-in_many : (g : Geometry) → GrowsInMany g
@@ -212,12 +212,12 @@ grows-in_many g a b id h head bytes f beside edit prime grows = record {
   adds = grows.adds;
   takes = grows.takes;
   appends = λ y edited. many-pages_append g (own (live_at g b) id) head y bytes (lengths g a b id h head f beside prime) (record {
-        some = grows.some;
-        whole = grows.whole;
-        size = edited.size ∙ grows.size;
-        words = words_kept g head y edit (length bytes) grows.size edited;
-        pages_are = grows.pages_are y edited;
-      });
+    some = grows.some;
+    whole = grows.whole;
+    size = edited.size ∙ grows.size;
+    words = words_kept g head y edit (length bytes) grows.size edited;
+    pages_are = grows.pages_are y edited;
+  });
 }
 
 module _ (g : Geometry) (b : List ℕ) (id : ℕ) (head bytes : List ℕ) (edit : Edit) (grows : Grows g b id head bytes edit) (y : List ℕ) (edited : IsEdited g head edit y) where

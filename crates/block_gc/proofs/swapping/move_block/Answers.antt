@@ -12,5 +12,5 @@ returns-in_err-clean g c =
 pub returns : goal.returns
 returns g c =
     let first : Stepped stopped c.args.v.now c.clean.new.v (Ok tt) (cleaning_within c.args.block (g.N.NorState.device_writes c.args.v.now.nor.now) (g.N.NorState.device_writes c.clean.new.v.nor.now)) =
-        ends_as c.in_ok-clean.ensures.step (λ tells can. record { needs = can; cut = λ d cut. cut }) (λ tells can done. (done, let few = c.in_ok-clean.ensures.few tells can in omega (arith, few))) in
+    ends_as c.in_ok-clean.ensures.step (λ tells can. record { needs = can; cut = λ d cut. cut }) (λ tells can done. (done, let few = c.in_ok-clean.ensures.few tells can in omega (arith, few))) in
     stepped_then first c.free_up.ensures.step (λ tells can. cleaned_begins _ _ c.args.block can) (λ tells can done. move_ends _ _ _ c.args.block can done)
