@@ -213,7 +213,7 @@ goes_cornered {nor = nor} {old = old} {mid = mid} {new = new} {slots = slots} {i
     (λ look. absurd (let no : true ≡ false = sym change ∙ look in cc))
     (λ why e. absurd (let no : None ≡ Some why = sym fine ∙ e in cc))
     (λ s here write none. cleans_as (λ e. absurd (let no : false ≡ true = e in cc)) (all.cleans here.tells (does.can s here)))
-    (λ s here write. turns_once (index_few ask) (omega arith) (rest_few old.geometry ask write) (few_once (some_steps old.geometry (nor.bytes old.nor.now) s ask flat (does.doable s here))) (cleans_as (λ e. absurd (let no : false ≡ true = e in cc)) (all.cleans here.tells (does.can s here))))
+    (λ s here write. turns_once 1 (index_few ask) (omega arith) (rest_few old.geometry ask write) (omega arith, omega arith, few_once (some_steps old.geometry (nor.bytes old.nor.now) s ask flat (does.doable s here))) (cleans_as (λ e. absurd (let no : false ≡ true = e in cc)) (all.cleans here.tells (does.can s here))))
 
 -- ---- cuts by descriptor
 

@@ -533,7 +533,7 @@ module _ {N : Type 0} {nor : NorOf N} {old mid new : View N nor} {slots : List F
   -- the pages of no write were had in one turn
   once : {E : Type 0} {errors : Errors E} {r : Result (Unit {0}) E} {broken : Type 0} → Taken errors (index_taken ask) 0 (rest_taken old.geometry ask) old new r step → (IsErr r → broken) → (s : State) → IsImageOf nor old.geometry old.nor.now slots s → is_write ask ≡ true →
       CleansInTurns nor old.geometry (WritesNoTail old.geometry (nor.bytes old.nor.now) s ask) (length (steps old.geometry (has_spare old.geometry (nor.bytes old.nor.now)) s ask)) old.nor.now new.nor.now broken
-  once call on s here write = turns_once (index_few ask) (omega arith) (rest_few old.geometry ask write) (few_once (some_steps old.geometry (nor.bytes old.nor.now) s ask flat (does.doable s here))) (cleans_as on (call.cleans here.tells (does.can s here)))
+  once call on s here write = turns_once 1 (index_few ask) (omega arith) (rest_few old.geometry ask write) (omega arith, omega arith, few_once (some_steps old.geometry (nor.bytes old.nor.now) s ask flat (does.doable s here))) (cleans_as on (call.cleans here.tells (does.can s here)))
 
   -- those of a write in turns
   in_turns : {E : Type 0} {errors : Errors E} {ready : Geometry → List ℕ → Type 0} {parts : ℕ} {r : Result (Unit {0}) E} {broken : Type 0} → IsTurned nor old.geometry ready parts old.nor.now slots ask → Turned errors ready parts old new r step → (IsErr r → broken) → (s : State) → IsImageOf nor old.geometry old.nor.now slots s →

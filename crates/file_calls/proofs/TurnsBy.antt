@@ -20,7 +20,7 @@ use Rattle.flash_view.specs.declared.view.View.{View}
 use Rattle.flash_view.specs.Same.{OnlyLooks}
 use Rattle.flash_view.specs.Steps.{Step, Errors, Stepped, Begins, Finishes}
 use Rattle.flash_view.proofs.Stepped.{after_look, stepped_then, passes}
-use Rattle.file_calls.specs.Cleans.{index_taken, rest_taken, turn_most, CleansFor, Taken, TurnsAlong, IsFew, CleansInTurns, Turned}
+use Rattle.file_calls.specs.Cleans.{index_taken, rest_taken, turn_most, WriteTurn, pages_in, CleansFor, Taken, TurnsAlong, IsFew, CleansInTurns, Turned}
 use Rattle.file_calls.proofs.CleansBy.{cleans_as, cleans_read}
 
 -- ---- fewer pages
@@ -50,7 +50,7 @@ index_few (SetsMetaOpen fd meta) = omega arith
 index_few _ = omega arith
 
 -- .. and a write has no rest but in its turns
-pub rest_few : (g : Geometry) (ask : Ask) → is_write ask ≡ true → rest_taken g ask ≤ turn_most
+pub rest_few : (g : Geometry) (ask : Ask) → is_write ask ≡ true → rest_taken g ask ≤ turn_most 1
 rest_few g (Creates name) write = absurd (cc)
 rest_few g (Opens name flags) write = absurd (cc)
 rest_few g (Truncates fd size) write = absurd (cc)
@@ -71,14 +71,14 @@ some_among t (u ∷ us) among = omega arith
 
 module _ {D : Type 0} {nor : NorOf D} {g : Geometry} where
   -- blocks that are cleaned for few pages are cleaned for these
-  cleans_more : {i p k : ℕ} {old new : D} {P : Type 0} → i ≤ 2 → p ≤ 16 → k ≤ turn_most → CleansFor nor g i p k old new P → CleansFor nor g 2 16 turn_most old new P
-  cleans_more {i} {p} {k} {old} less fewer short call = record {
+  cleans_more : {i p k : ℕ} (q : ℕ) {old new : D} {P : Type 0} → i ≤ 2 → p ≤ q → k ≤ turn_most q → CleansFor nor g i p k old new P → CleansFor nor g 2 q (turn_most q) old new P
+  cleans_more {i} {p} {k} q {old} less fewer short call = record {
     mid = call.mid;
     first = call.first;
-    idle = λ ready. call.idle (ready_less g (nor.bytes old) i p 2 16 less fewer ready);
+    idle = λ ready. call.idle (ready_less g (nor.bytes old) i p 2 q less fewer ready);
     needed = λ whole.
         let w = call.needed whole in
-        record { swept = w.swept; lower = w.lower; most = w.most; few = w.few; needed = none_more (λ image. IsReady g image i p) (λ image. IsReady g image 2 16) w.swept.through (λ image ready. ready_less g image i p 2 16 less fewer ready) w.needed };
+        record { swept = w.swept; lower = w.lower; most = w.most; few = w.few; needed = none_more (λ image. IsReady g image i p) (λ image. IsReady g image 2 q) w.swept.through (λ image ready. ready_less g image i p 2 q less fewer ready) w.needed };
     few = let few = call.few in omega (arith, few, short);
     rest_cut = call.rest_cut;
     none = λ no_index no_pages. absurd (let no : 2 ≡ 0 = no_index in omega (arith, no));
@@ -86,33 +86,33 @@ module _ {D : Type 0} {nor : NorOf D} {g : Geometry} where
 
 module _ {D : Type 0} (nor : NorOf D) (g : Geometry) where
   -- turns that are broken off where others are
-  along_as : (old new : D) (P Q : Type 0) (turns : List D) → (P → Q) → TurnsAlong nor g old new P turns → TurnsAlong nor g old new Q turns
+  along_as : (old new : D) (P Q : Type 0) (turns : List (WriteTurn D)) → (P → Q) → TurnsAlong nor g old new P turns → TurnsAlong nor g old new Q turns
   unfolding TurnsAlong
   along_as old new P Q [] on along = along
-  along_as old new P Q (from ∷ more) on along = (along.0, cleans_as on along.1)
+  along_as old new P Q (turn ∷ more) on along = (along.0, cleans_as on along.1)
 
   -- before reads
-  along_read : (old mid new : D) (P : Type 0) (turns : List D) → TurnsAlong nor g old mid P turns → OnlyReads nor mid new → TurnsAlong nor g old new P turns
+  along_read : (old mid new : D) (P : Type 0) (turns : List (WriteTurn D)) → TurnsAlong nor g old mid P turns → OnlyReads nor mid new → TurnsAlong nor g old new P turns
   unfolding TurnsAlong
   along_read old mid new P [] along reads = reads_then along reads
-  along_read old mid new P (from ∷ more) along reads = (along.0, cleans_read along.1 reads)
+  along_read old mid new P (turn ∷ more) along reads = (along.0, cleans_read along.1 reads)
 
   -- after reads
-  along_after : (old mid new : D) (P : Type 0) (turns : List D) → OnlyReads nor old mid → TurnsAlong nor g mid new P turns → TurnsAlong nor g old new P turns
+  along_after : (old mid new : D) (P : Type 0) (turns : List (WriteTurn D)) → OnlyReads nor old mid → TurnsAlong nor g mid new P turns → TurnsAlong nor g old new P turns
   unfolding TurnsAlong
   along_after old mid new P [] reads along = reads_then reads along
-  along_after old mid new P (from ∷ more) reads along = (along_after old mid from ⊥ more reads along.0, along.1)
+  along_after old mid new P (turn ∷ more) reads along = (along_after old mid turn.from ⊥ more reads along.0, along.1)
 
   -- after turns that were not broken off
-  along_then : (old mid new : D) (P : Type 0) (turns before : List D) → TurnsAlong nor g old mid ⊥ before → TurnsAlong nor g mid new P turns → TurnsAlong nor g old new P (turns ++ before)
+  along_then : (old mid new : D) (P : Type 0) (turns before : List (WriteTurn D)) → TurnsAlong nor g old mid ⊥ before → TurnsAlong nor g mid new P turns → TurnsAlong nor g old new P (turns ++ before)
   unfolding TurnsAlong
   along_then old mid new P [] before first along = along_read old mid new P before (along_as old mid ⊥ P before (λ e. absurd e) first) along
-  along_then old mid new P (from ∷ more) before first along = (along_then old mid from ⊥ more before first along.0, along.1)
+  along_then old mid new P (turn ∷ more) before first along = (along_then old mid turn.from ⊥ more before first along.0, along.1)
 
   -- one turn
-  along_once : (old new : D) (P : Type 0) → CleansFor nor g 2 16 turn_most old new P → TurnsAlong nor g old new P (old ∷ [])
+  along_once : (pages : ℕ) (some : 1 ≤ pages) (short : pages ≤ 16) (old new : D) (P : Type 0) → CleansFor nor g 2 pages (turn_most pages) old new P → TurnsAlong nor g old new P (record { from = old; pages = pages; some = some; short = short } ∷ [])
   unfolding TurnsAlong
-  along_once old new P call = (reads_none old, call)
+  along_once pages some short old new P call = (reads_none old, call)
 
   -- none
   along_none : (old new : D) (P : Type 0) → OnlyReads nor old new → TurnsAlong nor g old new P []
@@ -123,21 +123,36 @@ module _ {D : Type 0} (nor : NorOf D) (g : Geometry) where
 pub few_none : {ready : Type 0} {parts : ℕ} → IsFew ready parts 0
 few_none = record { most = omega arith; few = λ no_tail. omega arith }
 
-pub few_once : {ready : Type 0} {parts : ℕ} → 1 ≤ parts → IsFew ready parts 1
-few_once some = record { most = omega (arith, some); few = λ no_tail. some }
+pub few_once : {ready : Type 0} {parts pages : ℕ} → pages ≤ parts → IsFew ready parts pages
+few_once few = record { most = omega (arith, few); few = λ no_tail. few }
+
+-- the pages of one turn, and of turns behind others
+one_in : {D : Type 0} (turn : WriteTurn D) → pages_in (turn ∷ []) ≡ turn.pages
+unfolding pages_in
+one_in turn = omega arith
+
+both_in : {D : Type 0} (turns before : List (WriteTurn D)) → pages_in (turns ++ before) ≡ pages_in turns + pages_in before
+unfolding pages_in
+both_in [] before = omega arith
+both_in (turn ∷ more) before = let rest = both_in more before in omega (arith, rest)
 
 module _ {D : Type 0} {nor : NorOf D} {g : Geometry} where
   -- a call with no more than reads
   pub turns_none : {ready : Type 0} {parts : ℕ} {old new : D} {P : Type 0} → OnlyReads nor old new → CleansInTurns nor g ready parts old new P
+  unfolding pages_in
   turns_none {old = old} {new = new} {P = P} reads = record { turns = []; along = along_none nor g old new P reads; few = few_none }
 
-  -- with one turn
-  pub turns_once : {ready : Type 0} {parts i p k : ℕ} {old new : D} {P : Type 0} → i ≤ 2 → p ≤ 16 → k ≤ turn_most → IsFew ready parts 1 → CleansFor nor g i p k old new P → CleansInTurns nor g ready parts old new P
-  turns_once {old = old} {new = new} {P = P} less fewer short few call = record { turns = old ∷ []; along = along_once nor g old new P (cleans_more less fewer short call); few = few }
+  -- with one turn, for so many data pages
+  pub turns_once : {ready : Type 0} {parts i p k : ℕ} (pages : ℕ) {old new : D} {P : Type 0} → i ≤ 2 → p ≤ pages → k ≤ turn_most pages → (1 ≤ pages) × (pages ≤ 16) × IsFew ready parts pages → CleansFor nor g i p k old new P → CleansInTurns nor g ready parts old new P
+  turns_once {ready} {parts} pages {old} {new} {P} less fewer within few call = record {
+    turns = record { from = old; pages = pages; some = few.0; short = few.1 } ∷ [];
+    along = along_once nor g pages few.0 few.1 old new P (cleans_more pages less fewer within call);
+    few = subst (λ (n : ℕ). IsFew ready parts n) (sym (one_in {D = D} (record { from = old; pages = pages; some = few.0; short = few.1 }))) few.2;
+  }
 
   -- broken off where another is, and no more than so many
   pub turns_as : {ready other : Type 0} {parts more : ℕ} {old new : D} {P Q : Type 0} → (P → Q) → ((n : ℕ) → IsFew ready parts n → IsFew other more n) → CleansInTurns nor g ready parts old new P → CleansInTurns nor g other more old new Q
-  turns_as {old = old} {new = new} {P = P} {Q = Q} on few call = record { turns = call.turns; along = along_as nor g old new P Q call.turns on call.along; few = few (length call.turns) call.few }
+  turns_as {old = old} {new = new} {P = P} {Q = Q} on few call = record { turns = call.turns; along = along_as nor g old new P Q call.turns on call.along; few = few (pages_in call.turns) call.few }
 
   -- after reads, and before reads
   pub turns_after : {ready : Type 0} {parts : ℕ} {old mid new : D} {P : Type 0} → OnlyReads nor old mid → CleansInTurns nor g ready parts mid new P → CleansInTurns nor g ready parts old new P
@@ -152,7 +167,7 @@ module _ {D : Type 0} {nor : NorOf D} {g : Geometry} where
   turns_then {whole = whole} {all = all} {old = old} {mid = mid} {new = new} {P = P} first last few = record {
     turns = last.turns ++ first.turns;
     along = along_then nor g old mid new P last.turns first.turns first.along last.along;
-    few = subst (λ (n : ℕ). IsFew whole all n) (sym (length-append last.turns first.turns)) (few (length first.turns) (length last.turns) first.few last.few);
+    few = subst (λ (n : ℕ). IsFew whole all n) (sym (both_in last.turns first.turns)) (few (pages_in first.turns) (pages_in last.turns) first.few last.few);
   }
 
 -- where no tail is to be made ready for another reason too, and there are more parts
@@ -166,10 +181,10 @@ module _ {N : Type 0} {nor : NorOf N} where
   pub turned_none : {T E : Type 0} {errors : Errors E} {ready : Geometry → List ℕ → Type 0} {parts : ℕ} {old new : View N nor} {r : Result T E} {step : Step T} → OnlyLooks old new → Stepped errors old new r step → Turned errors ready parts old new r step
   turned_none looks call = record { steps = call; cleans = λ tells need. turns_none looks.reads }
 
-  -- one
-  pub turned_once : {T E : Type 0} {errors : Errors E} {ready : Geometry → List ℕ → Type 0} {parts i p k : ℕ} {old new : View N nor} {r : Result T E} {step : Step T} → i ≤ 2 → p ≤ 16 → k ≤ turn_most →
-      (nor.tells old.nor.now → step.needs old.geometry (nor.bytes old.nor.now) → IsFew (ready old.geometry (nor.bytes old.nor.now)) parts 1) → Taken errors i p k old new r step → Turned errors ready parts old new r step
-  turned_once less fewer short few call = record { steps = call.steps; cleans = λ tells need. turns_once less fewer short (few tells need) (call.cleans tells need) }
+  -- one, for so many data pages
+  pub turned_once : {T E : Type 0} {errors : Errors E} {ready : Geometry → List ℕ → Type 0} {parts i p k : ℕ} (pages : ℕ) {old new : View N nor} {r : Result T E} {step : Step T} → i ≤ 2 → p ≤ pages → k ≤ turn_most pages →
+      (nor.tells old.nor.now → step.needs old.geometry (nor.bytes old.nor.now) → (1 ≤ pages) × (pages ≤ 16) × IsFew (ready old.geometry (nor.bytes old.nor.now)) parts pages) → Taken errors i p k old new r step → Turned errors ready parts old new r step
+  turned_once pages less fewer within few call = record { steps = call.steps; cleans = λ tells need. turns_once pages less fewer within (few tells need) (call.cleans tells need) }
 
   -- another step was taken by the same call
   pub turned_as : {S T D E : Type 0} {before : Errors D} {errors : Errors E} {ready other : Geometry → List ℕ → Type 0} {parts more : ℕ} {old new : View N nor} {r : Result S D} {q : Result T E} {first : Step S} {whole : Step T} → Turned before ready parts old new r first → Stepped errors old new q whole →

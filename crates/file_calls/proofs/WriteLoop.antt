@@ -1,19 +1,22 @@
 -- A write, one part after another.
-use Rattle.std.proofs.Common.{◌≡◌, ℕ, zero, suc, ◌+◌, ◌-◌, ◌%◌, ◌<◌, ◌≤◌, ◌⊎◌, ◌^◌, ◌==◌, ◌||◌, ⊎_elim, inl, inr, List, ◌∷◌, ◌++◌, length, take, drop, replicate, Bool, true, false, refl, sym, ◌∙◌, ap, subst, arith}
+use Rattle.std.proofs.Common.{◌≡◌, ℕ, zero, suc, ◌+◌, ◌-◌, ◌*◌, ◌/◌, ◌%◌, ◌<◌, ◌≤◌, ◌⊎◌, ◌^◌, ◌==◌, ◌||◌, ⊎_elim, inl, inr, List, ◌∷◌, ◌++◌, length, take, drop, replicate, Bool, true, false, refl, sym, ◌∙◌, ap, subst, arith}
 use Rattle.std.specs.Prelude.{Some, None, Result, Ok, Err, filter, slice_range}
 use Rattle.std.specs.List.{range_with_len}
 use Rattle.std.specs.Option.{option_map}
-use Rattle.std.proofs.lemmas.Bool.{cases_Bool, cases_lt, cases_eq}
+use Rattle.std.proofs.Math.Nat.{div-add-mod}
+use Rattle.std.proofs.lemmas.Bool.{cases_Bool, cases_lt, cases_eq, eq-eqb, ne_eqb}
 use Rattle.std.proofs.lemmas.List.{length-replicate, length-map, length-take-le, take-append-drop, append-nil, length-drop}
 use Rattle.nor_core.specs.declared.state.NorState.{Ghosts as NorOf}
 use Rattle.geometry.specs.declared.geometry.Geometry.{Geometry}
-use Rattle.geometry.specs.Numbers.{body}
+use Rattle.geometry.specs.Numbers.{body, ceil}
 use Rattle.table_model.specs.declared.error.FsErr.{FsErr}
 use Rattle.table_model.specs.declared.error.FsErr.TheVariants.{DeviceFault, Damaged}
 use Rattle.table_model.specs.declared.reply.Stat.{Stat}
 use Rattle.table_model.specs.Table.{File, file_of, put_file}
 use Rattle.table_model.specs.Files.{written, stat_of}
-use Rattle.table_model.specs.Room.{has_room}
+use Rattle.table_model.specs.Room.{has_room, data_pages}
+use Rattle.image_model.specs.Within.{sizes}
+use Rattle.renew_laws.proofs.Appended.{pages_of}
 use Rattle.table_model.specs.Steps.{part_ends, file_steps, written_up_to}
 use Rattle.table_model.specs.Window.{IsAmong}
 use Rattle.file_write.specs.Appends.{append_room}
@@ -36,8 +39,9 @@ use Rattle.renew_laws.specs.Tails.{IsTailReady}
 use Rattle.file_calls.specs.Writings.{CanWrite, CanWritePart, WriteDone, WriteCut, writing_part}
 use Rattle.file_calls.proofs.Going.{is_first, tidy_sound}
 use Rattle.file_calls.proofs.Resizing.{put_again, written_size}
+use Rattle.file_calls.proofs.PartEnds.{page_ends}
 use Rattle.file_calls.proofs.PartRoom.{less_room, few_bytes}
-use Rattle.file_calls.proofs.TurnsBy.{few_more, turned_never, turned_then}
+use Rattle.file_calls.proofs.TurnsBy.{few_more, turned_never, turned_so, turned_then}
 
 -- ---- what is written so far
 
@@ -155,11 +159,54 @@ chosen_more p a (suc n) (suc m) e low high passes =
     (λ (no : p a ≡ false). rw no rest)
     (cases_Bool (p a))
 
-ends_more : (page room size at len from to : ℕ) → IsPart page room size at len from to → length (ends_to page size at len from) + 1 ≤ length (ends_to page size at len to)
-ends_more page room size at len from to part =
-    let low = part.low in
-    let some = part.some in
-    chosen_more (λ x. (x % page == 0) || (x == size) || (x == at + len)) (at + 1) (from - at) (to - at) to (omega (arith, low, some)) (omega (arith, low, some)) (end_passes page size at len to part.is_end.ends)
+one_more : (page size at len from to : ℕ) → at ≤ from → from < to → ((to % page == 0) || (to == size) || (to == at + len)) ≡ true → length (ends_to page size at len from) + 1 ≤ length (ends_to page size at len to)
+one_more page size at len from to low some passes =
+    chosen_more (λ x. (x % page == 0) || (x == size) || (x == at + len)) (at + 1) (from - at) (to - at) to (omega (arith, low, some)) (omega (arith, low, some)) passes
+
+-- each end of a page is one
+page_passes : (page size at len to : ℕ) → to % page ≡ 0 → ((to % page == 0) || (to == size) || (to == at + len)) ≡ true
+page_passes page size at len to ends = rw (eq-eqb (to % page) 0 ends) refl
+
+ends_pages : (page size at len from k : ℕ) → 0 < page → at ≤ from → from % page ≡ 0 → length (ends_to page size at len from) + k ≤ length (ends_to page size at len (from + k * page))
+ends_pages page size at len from zero big low whole =
+    let here : from ≡ from + 0 * page = omega arith in
+    let same : length (ends_to page size at len from) ≡ length (ends_to page size at len (from + 0 * page)) = ap (λ (e : ℕ). length (ends_to page size at len e)) here in
+    omega (arith, same)
+ends_pages page size at len from (suc k) big low whole =
+    let next : (from + page) % page ≡ 0 = subst (λ (n : ℕ). (from + (page - n)) % page ≡ 0) whole (page_ends page from big) in
+    let one = one_more page size at len from (from + page) low (omega (arith, big)) (page_passes page size at len (from + page) next) in
+    let rest = ends_pages page size at len (from + page) k big (omega (arith, low)) next in
+    let there : from + page + k * page ≡ from + suc k * page = omega arith in
+    let same : length (ends_to page size at len (from + page + k * page)) ≡ length (ends_to page size at len (from + suc k * page)) = ap (λ (e : ℕ). length (ends_to page size at len e)) there in
+    omega (arith, one, rest, same)
+
+-- a part that begins a page, or is no longer than one, has as many ends as data pages
+ends_all : (page size at len from to : ℕ) → 0 < page → at ≤ from → from < to → ((to % page == 0) || (to == size) || (to == at + len)) ≡ true → (from % page ≡ 0) ⊎ (to - from ≤ page) →
+    length (ends_to page size at len from) + ceil (to - from) page ≤ length (ends_to page size at len to)
+ends_all page size at len from to big low some passes (inr short) =
+    let one : ceil (to - from) page ≡ 1 = ap (λ (n : ℕ). ceil n page) (let none : to - from ≡ page * 0 + (to - from) = omega arith in none) ∙ pages_of 0 (to - from) page (omega (arith, some)) short in
+    let more = one_more page size at len from to low some passes in
+    omega (arith, one, more)
+ends_all page size at len from to big low some passes (inl whole) =
+    let k = (to - from - 1) / page in
+    let r = (to - from - 1) % page + 1 in
+    let split : page * k + (to - from - 1) % page ≡ to - from - 1 = div-add-mod (to - from - 1) page in
+    let less : (to - from - 1) % page < page = omega (arith, big) in
+    let turned : k * page ≡ page * k = omega arith in
+    let count : ceil (to - from) page ≡ k + 1 = ap (λ (n : ℕ). ceil n page) (let long : to - from ≡ page * k + r = omega (arith, split, some) in long) ∙ pages_of k r page (omega arith) (omega (arith, less)) in
+    let so_far = ends_pages page size at len from k big low whole in
+    let last = one_more page size at len (from + k * page) to (omega (arith, low)) (omega (arith, split, turned, some)) passes in
+    omega (arith, count, so_far, last)
+
+ends_more : (g : Geometry) (size at len from to : ℕ) → IsPart (body g) (append_room g from) size at len from to → length (ends_to (body g) size at len from) + data_pages g (to - from) ≤ length (ends_to (body g) size at len to)
+ends_more g size at len from to part =
+    ends_all (body g) size at len from to (omega (arith, (sizes g).page)) part.low part.some (end_passes (body g) size at len to part.is_end.ends) (⊎_elim
+    (λ (inner : from < size). let one = part.one_page inner in inr (omega (arith, one)))
+    (λ (end : size ≤ from). ⊎_elim
+    (λ (whole : from % body g ≡ 0). inl whole)
+    (λ (used : from % body g ≡ 0 → ⊥). let room : to - from ≤ body g - from % body g = rw (ne_eqb (from % body g) 0 used) at (part.fits end) in inr (omega (arith, room)))
+    (cases_eq (from % body g) 0))
+    (cases_lt from size))
 
 -- those before a place are among all
 pub few_part : (g : Geometry) (a : List ℕ) (id page size at len to n : ℕ) → to ≤ at + len → IsFew (NeedsNoTail id size to g a) (length (ends_to page size at len to)) n → IsFew (NeedsNoTail id size (at + len) g a) (length (part_ends page size at len)) n
@@ -262,9 +309,11 @@ module _ (g : Geometry) (a mid : List ℕ) (id at from to : ℕ) (known : Bool) 
 
   -- the turns that it takes are those of one part more
   pub part_few : (m n : ℕ) → IsFew (NeedsNoTail id (length f.bytes) from g a) (length (ends_to (body g) (length f.bytes) at (length bytes) from)) m →
-      IsFew (NeedsNoTail id (length (so_far at from bytes f).bytes) (from + length bytes_of) g mid) 1 n → IsFew (NeedsNoTail id (length f.bytes) to g a) (length (ends_to (body g) (length f.bytes) at (length bytes) to)) (n + m)
+      IsFew (NeedsNoTail id (length (so_far at from bytes f).bytes) (from + length bytes_of) g mid) (data_pages g (length bytes_of)) n → IsFew (NeedsNoTail id (length f.bytes) to g a) (length (ends_to (body g) (length f.bytes) at (length bytes) to)) (n + m)
   part_few m n first last =
-      let more = ends_more (body g) (append_room g from) (length f.bytes) at (length bytes) from to part in
+      let pages : data_pages g (length bytes_of) ≡ data_pages g (to - from) = ap (data_pages g) count in
+      let all = ends_more g (length f.bytes) at (length bytes) from to part in
+      let more : length (ends_to (body g) (length f.bytes) at (length bytes) from) + data_pages g (length bytes_of) ≤ length (ends_to (body g) (length f.bytes) at (length bytes) to) = omega (arith, all, pages) in
       let some = part.some in
       let low = first.most in
       let high = last.most in
@@ -296,7 +345,7 @@ module _ (g : Geometry) (a mid : List ℕ) (id at from to : ℕ) (known : Bool) 
 module _ {N : Type 0} {nor : NorOf N} {old mid new : View N nor} {r : Result (Unit {0}) FsErr} (id at from to size most : ℕ) (known : Bool) (bytes : List ℕ) (f : File) where
   -- a part that nothing allows, since no such write is allowed
   no_turn : (nor.tells old.nor.now → CanWrite old.geometry (nor.bytes old.nor.now) id at bytes f → ⊥) → Turned refusing (NeedsNoTail id (length f.bytes) from) (length (ends_to (body old.geometry) (length f.bytes) at (length bytes) from)) old mid (Ok tt) (writing_to id at from bytes f) →
-      ((e : File) → most ≡ length e.bytes → Turned refusing (NeedsNoTail id (length e.bytes) (from + length (slice_range bytes (from - at) (to - at)))) 1 mid new r (writing_part id known from (slice_range bytes (from - at) (to - at)) e)) → Turned refusing (NeedsNoTail id (length f.bytes) to) (length (ends_to (body old.geometry) (length f.bytes) at (length bytes) to)) old new r (writing_to id at to bytes f)
+      ((e : File) → most ≡ length e.bytes → Turned refusing (NeedsNoTail id (length e.bytes) (from + length (slice_range bytes (from - at) (to - at)))) (data_pages mid.geometry (length (slice_range bytes (from - at) (to - at)))) mid new r (writing_part id known from (slice_range bytes (from - at) (to - at)) e)) → Turned refusing (NeedsNoTail id (length f.bytes) to) (length (ends_to (body old.geometry) (length f.bytes) at (length bytes) to)) old new r (writing_to id at to bytes f)
   no_turn never first next =
       let some : File = record f { bytes = replicate most 0 } in
       turned_never (stepped_then first.steps (next some (sym (length-replicate {A = ℕ} most 0))).steps (λ tells can. record { needs = can; cut = λ c cut. cut }) (λ tells can done. absurd (never tells can))) never
@@ -304,7 +353,7 @@ module _ {N : Type 0} {nor : NorOf N} {old mid new : View N nor} {r : Result (Un
   -- a part more of a write
   pub write_turn : IsPart (body mid.geometry) (append_room mid.geometry from) size at (length bytes) from to → most ≡ from + (size - from) → (nor.tells old.nor.now → CanWrite old.geometry (nor.bytes old.nor.now) id at bytes f → size ≡ length f.bytes) → (known ≡ true → size < from) →
       Turned refusing (NeedsNoTail id (length f.bytes) from) (length (ends_to (body old.geometry) (length f.bytes) at (length bytes) from)) old mid (Ok tt) (writing_to id at from bytes f) →
-      ((e : File) → most ≡ length e.bytes → Turned refusing (NeedsNoTail id (length e.bytes) (from + length (slice_range bytes (from - at) (to - at)))) 1 mid new r (writing_part id known from (slice_range bytes (from - at) (to - at)) e)) →
+      ((e : File) → most ≡ length e.bytes → Turned refusing (NeedsNoTail id (length e.bytes) (from + length (slice_range bytes (from - at) (to - at)))) (data_pages mid.geometry (length (slice_range bytes (from - at) (to - at)))) mid new r (writing_part id known from (slice_range bytes (from - at) (to - at)) e)) →
       Turned refusing (NeedsNoTail id (length f.bytes) to) (length (ends_to (body old.geometry) (length f.bytes) at (length bytes) to)) old new r (writing_to id at to bytes f)
   write_turn part most_is told sure first next = ⊎_elim
       (λ (same : size ≡ length f.bytes). ⊎_elim
@@ -313,7 +362,7 @@ module _ {N : Type 0} {nor : NorOf N} {old mid new : View N nor} {r : Result (Un
       let here : IsPart (body old.geometry) (append_room old.geometry from) (length f.bytes) at (length bytes) from to = rw (first.steps.framed.same.geometry, same) at part in
       let long = long_so_far at from bytes f inside part.low (let some = part.some in let within = part.within in omega (arith, some, within)) in
       let behind : known ≡ true → length f.bytes < from = λ is. let past = sure is in omega (arith, past, same) in
-      turned_then first (next (so_far at from bytes f) (omega (arith, most_is, long, same))) (λ tells can. record { needs = can; cut = λ c cut. cut })
+      turned_then first (turned_so (ap (λ (k : Geometry). data_pages k (length (slice_range bytes (from - at) (to - at)))) first.steps.framed.same.geometry) (next (so_far at from bytes f) (omega (arith, most_is, long, same)))) (λ tells can. record { needs = can; cut = λ c cut. cut })
       (λ tells can done. part_goes old.geometry (nor.bytes old.nor.now) (nor.bytes mid.nor.now) id at from to known bytes f can here done behind)
       (λ tells can done m n before after. part_few old.geometry (nor.bytes old.nor.now) (nor.bytes mid.nor.now) id at from to known bytes f can here done behind m n before after))
       (cases_lt (length f.bytes) at))

@@ -24,7 +24,7 @@ use Rattle.header_laws.proofs.Listed.{any-found}
 use Rattle.page_renew.specs.PageSteps.{StepCut}
 use Rattle.block_gc.specs.RoomMade.{MadeRoom}
 use Rattle.file_write.specs.Appends.{index_needed, pages_most, append_room, appending}
-use Rattle.file_write.proofs.Sizes.{next_pages, pages_few as few_by_bytes}
+use Rattle.file_write.proofs.Sizes.{next_pages, some_pages, pages_few as few_by_bytes}
 use Rattle.file_write.specs.Overwrites.{overwriting}
 use Rattle.file_write.specs.Readyings.{readying}
 use Rattle.flash_view.specs.declared.view.View.{View}
@@ -35,7 +35,7 @@ use Rattle.file_calls.specs.Cuts.{JobCut}
 use Rattle.file_calls.specs.Cleans.{Taken, IsFew, Turned, turn_most, NeedsNoTail}
 use Rattle.file_calls.specs.Writings.{CanWritePart, CanHaveTail, HasTail, CanNeedTail, writing_part, having_tail, needing_tail}
 use Rattle.file_calls.proofs.CleansBy.{step_leaves, taken_passes, taken_then}
-use Rattle.file_calls.proofs.TurnsBy.{few_once, turned_once, turned_passes, turned_never, turned_then}
+use Rattle.file_calls.proofs.TurnsBy.{few_once, turned_once, turned_passes, turned_never, turned_so, turned_then}
 use Rattle.file_calls.proofs.Going.{tidy_sound}
 use Rattle.file_calls.proofs.Resizing.{written_size}
 use Rattle.file_calls.proofs.PartRoom.{room_beside, room_behind, few_pages}
@@ -184,8 +184,8 @@ module _ (g : Geometry) (a : List ℕ) (id : ℕ) (known : Bool) (at : ℕ) (byt
   }
 
   -- that is a turn more where it isn't ready
-  pub append_few : at ≡ length f.bytes → (m n : ℕ) → IsFew (IsTailReady g a id) 0 m → IsFew (Unit {0}) 1 n → IsFew (NeedsNoTail id (length f.bytes) (at + length bytes) g a) 1 (n + m)
-  append_few end m n first last =
+  pub append_few : at ≡ length f.bytes → (m n pages : ℕ) → IsFew (IsTailReady g a id) 0 m → IsFew (Unit {0}) pages n → IsFew (NeedsNoTail id (length f.bytes) (at + length bytes) g a) pages (n + m)
+  append_few end m n pages first last =
       let one = last.few tt in
       record {
         most = let tail = first.most in omega (arith, one, tail);
@@ -255,30 +255,34 @@ pages_few g at count is = let few = needed_few g at in omega (arith, few, is)
 
 -- over a view
 module _ {N : Type 0} {nor : NorOf N} {old new : View N nor} {r : Result (Unit {0}) FsErr} (id at : ℕ) (bytes : List ℕ) (f : File) (end : at ≡ length f.bytes) (count pages : ℕ) (is : count ≡ index_needed old.geometry at) (pages_is : pages ≡ data_pages old.geometry (length bytes)) (room : length bytes ≤ append_room old.geometry at) where
+  -- its pages are its parts
+  paged_few : (was : List ℕ) → CanWritePart old.geometry was id true at bytes f → (1 ≤ pages) × (pages ≤ 16) × IsFew (Unit {0}) (data_pages old.geometry (length bytes)) pages
+  paged_few was can = let some = some_pages old.geometry (length bytes) can.can.some in let most = room_pages old.geometry at (length bytes) room in (omega (arith, some, pages_is), omega (arith, most, pages_is), few_once (omega (arith, pages_is)))
+
   -- no pages were had
-  pub paged_not : {e : FsErr} → Taken refusing count pages 0 old new (Err e) (taking_pages count pages) → r ≡ Err e → Turned refusing (λ g was. Unit {0}) 1 old new r (writing_part id true at bytes f)
-  paged_not call same = turned_once (pages_few old.geometry at count is) (let most = room_pages old.geometry at (length bytes) room in omega (arith, most, pages_is)) (omega arith) (λ tells can. few_once (omega arith)) (taken_passes call same (λ tells can. pages_begin old.geometry (nor.bytes old.nor.now) id at bytes f can end count pages is pages_is))
+  pub paged_not : {e : FsErr} → Taken refusing count pages 0 old new (Err e) (taking_pages count pages) → r ≡ Err e → Turned refusing (λ g was. Unit {0}) (data_pages old.geometry (length bytes)) old new r (writing_part id true at bytes f)
+  paged_not call same = turned_once pages (pages_few old.geometry at count is) (omega arith) (omega arith) (λ tells can. paged_few (nor.bytes old.nor.now) can) (taken_passes call same (λ tells can. pages_begin old.geometry (nor.bytes old.nor.now) id at bytes f can end count pages is pages_is))
 
   -- .. or they were, and then the page step was taken
-  pub paged_then : {mid : View N nor} {x : Unit {0}} → nor.device_writes new.nor.now ≤ nor.device_writes mid.nor.now + turn_most → Taken refusing count pages 0 old mid (Ok x) (taking_pages count pages) → Stepped refusing mid new r (appending id bytes f) → Turned refusing (λ g was. Unit {0}) 1 old new r (writing_part id true at bytes f)
-  paged_then {mid} few call next = turned_once (pages_few old.geometry at count is) (let most = room_pages old.geometry at (length bytes) room in omega (arith, most, pages_is)) (omega arith) (λ tells can. few_once (omega arith))
+  pub paged_then : {mid : View N nor} {x : Unit {0}} → nor.device_writes new.nor.now ≤ nor.device_writes mid.nor.now + turn_most pages → Taken refusing count pages 0 old mid (Ok x) (taking_pages count pages) → Stepped refusing mid new r (appending id bytes f) → Turned refusing (λ g was. Unit {0}) (data_pages old.geometry (length bytes)) old new r (writing_part id true at bytes f)
+  paged_then {mid} few call next = turned_once pages (pages_few old.geometry at count is) (omega arith) (omega arith) (λ tells can. paged_few (nor.bytes old.nor.now) can)
       (taken_then (λ g was image cut. step_leaves cut) few call next
       (λ tells can. pages_begin old.geometry (nor.bytes old.nor.now) id at bytes f can end count pages is pages_is)
       (λ tells can made. pages_end old.geometry (nor.bytes old.nor.now) id at bytes f can end count pages is pages_is (nor.bytes mid.nor.now) made))
 
 module _ {N : Type 0} {nor : NorOf N} {old new : View N nor} {r : Result (Unit {0}) FsErr} (id : ℕ) (known : Bool) (at : ℕ) (bytes : List ℕ) (f : File) where
   -- the tail was not had
-  pub append_not : {e : FsErr} → Turned refusing (λ g was. IsTailReady g was id) 0 old new (Err e) (needing_tail id known) → r ≡ Err e → Turned refusing (NeedsNoTail id (length f.bytes) (at + length bytes)) 1 old new r (writing_part id known at bytes f)
+  pub append_not : {e : FsErr} → Turned refusing (λ g was. IsTailReady g was id) 0 old new (Err e) (needing_tail id known) → r ≡ Err e → Turned refusing (NeedsNoTail id (length f.bytes) (at + length bytes)) (data_pages old.geometry (length bytes)) old new r (writing_part id known at bytes f)
   append_not call same = turned_passes call same (λ tells can. append_begins old.geometry (nor.bytes old.nor.now) id known at bytes f can)
-      (λ tells can n few. let one = few.most in record { most = omega (arith, one); few = λ no_tail. omega (arith, one) })
+      (λ tells can n few. let one = few.most in let some = some_pages old.geometry (length bytes) can.can.some in record { most = omega (arith, one); few = λ no_tail. omega (arith, one, some) })
 
   -- .. or it was, and then they were written
-  pub append_then : {mid : View N nor} {x : Unit {0}} → at ≡ length f.bytes → Turned refusing (λ g was. IsTailReady g was id) 0 old mid (Ok x) (needing_tail id known) → Turned refusing (λ g was. Unit {0}) 1 mid new r (writing_part id true at bytes f) →
-      Turned refusing (NeedsNoTail id (length f.bytes) (at + length bytes)) 1 old new r (writing_part id known at bytes f)
-  append_then {mid} end call next = turned_then call next
+  pub append_then : {mid : View N nor} {x : Unit {0}} → at ≡ length f.bytes → Turned refusing (λ g was. IsTailReady g was id) 0 old mid (Ok x) (needing_tail id known) → Turned refusing (λ g was. Unit {0}) (data_pages mid.geometry (length bytes)) mid new r (writing_part id true at bytes f) →
+      Turned refusing (NeedsNoTail id (length f.bytes) (at + length bytes)) (data_pages old.geometry (length bytes)) old new r (writing_part id known at bytes f)
+  append_then {mid} end call next = turned_then call (turned_so (ap (λ (k : Geometry). data_pages k (length bytes)) call.steps.framed.same.geometry) next)
       (λ tells can. append_begins old.geometry (nor.bytes old.nor.now) id known at bytes f can)
       (λ tells can tail. append_goes old.geometry (nor.bytes old.nor.now) id known at bytes f can (nor.bytes mid.nor.now) tail)
-      (λ tells can tail m n first last. append_few old.geometry (nor.bytes old.nor.now) id known at bytes f can end m n first last)
+      (λ tells can tail m n first last. append_few old.geometry (nor.bytes old.nor.now) id known at bytes f can end m n (data_pages old.geometry (length bytes)) first last)
 
 -- ---- a part of a write
 
@@ -289,21 +293,21 @@ no_step call never = weaker call (λ tells need. absurd (never tells need))
 
 -- bytes that begin inside a file end there where they are one part of a write
 pub part_inside : {N : Type 0} {nor : NorOf N} {old new : View N nor} {r : Result (Unit {0}) FsErr} (id : ℕ) (known : Bool) (at : ℕ) (bytes : List ℕ) (f : File) → at < length f.bytes →
-    ((e : File) → at + length bytes ≤ length e.bytes → Taken refusing 1 1 12 old new r (writing_part id known at bytes e)) → Turned refusing (NeedsNoTail id (length f.bytes) (at + length bytes)) 1 old new r (writing_part id known at bytes f)
+    ((e : File) → at + length bytes ≤ length e.bytes → Taken refusing 1 1 12 old new r (writing_part id known at bytes e)) → Turned refusing (NeedsNoTail id (length f.bytes) (at + length bytes)) (data_pages old.geometry (length bytes)) old new r (writing_part id known at bytes f)
 part_inside id known at bytes f low call = ⊎_elim
     (λ (past : length f.bytes < at + length bytes).
     let some : File = record f { bytes = replicate (at + length bytes) 0 } in
     let never : (g : Geometry) (was : List ℕ) → CanWritePart g was id known at bytes f → ⊥ = λ g was can. ⊎_elim (λ (inside : (at + length bytes ≤ length f.bytes) × (at % body g + length bytes ≤ body g)). omega (arith, inside.0, past)) (λ (end : (at ≡ length f.bytes) × (length bytes ≤ append_room g at)). omega (arith, end.0, low)) can.inside in
     turned_never (no_step (call some (let e = length-replicate {A = ℕ} (at + length bytes) 0 in omega (arith, e))).steps (λ tells can. never _ _ can)) (λ tells can. never _ _ can))
-    (λ (inside : at + length bytes ≤ length f.bytes). turned_once (omega arith) (omega arith) (omega arith) (λ tells can. few_once (omega arith)) (call f inside))
+    (λ (inside : at + length bytes ≤ length f.bytes). turned_once 1 (omega arith) (omega arith) (omega arith) (λ tells can. (omega arith, omega arith, few_once (some_pages _ (length bytes) can.can.some))) (call f inside))
     (cases_lt (length f.bytes) (at + length bytes))
 
 -- and others begin at its end
 pub part_behind : {N : Type 0} {nor : NorOf N} {old new : View N nor} {r : Result (Unit {0}) FsErr} (id : ℕ) (known : Bool) (at size : ℕ) (bytes : List ℕ) (f : File) → size ≤ at → size ≡ length f.bytes →
-    Turned refusing (NeedsNoTail id (length f.bytes) (size + length bytes)) 1 old new r (writing_part id known size bytes f) → Turned refusing (NeedsNoTail id (length f.bytes) (at + length bytes)) 1 old new r (writing_part id known at bytes f)
+    Turned refusing (NeedsNoTail id (length f.bytes) (size + length bytes)) (data_pages old.geometry (length bytes)) old new r (writing_part id known size bytes f) → Turned refusing (NeedsNoTail id (length f.bytes) (at + length bytes)) (data_pages old.geometry (length bytes)) old new r (writing_part id known at bytes f)
 part_behind {nor = nor} {old = old} {new = new} {r = r} id known at size bytes f high is call = ⊎_elim
     (λ (past : size < at).
     let never : (g : Geometry) (was : List ℕ) → CanWritePart g was id known at bytes f → ⊥ = λ g was can. let from = can.can.from in omega (arith, from, past, is) in
     turned_never (no_step call.steps (λ tells can. never _ _ can)) (λ tells can. never _ _ can))
-    (λ (within : at ≤ size). let same : size ≡ at = omega (arith, high, within) in subst (λ (n : ℕ). Turned {nor = nor} refusing (NeedsNoTail id (length f.bytes) (n + length bytes)) 1 old new r (writing_part id known n bytes f)) same call)
+    (λ (within : at ≤ size). let same : size ≡ at = omega (arith, high, within) in subst (λ (n : ℕ). Turned {nor = nor} refusing (NeedsNoTail id (length f.bytes) (n + length bytes)) (data_pages old.geometry (length bytes)) old new r (writing_part id known n bytes f)) same call)
     (cases_lt size at)

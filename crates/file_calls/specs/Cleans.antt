@@ -75,27 +75,40 @@ pub record Taken {N T E : Type 0} {nor : NorOf N} (errors : Errors E) (index pag
 
 -- ---- writes
 
--- the most programs of a turn of a write, beside those of its cleanings: four for each of at most 16 pages that are put, and six for the header
--- page that is renewed once for all of them; a single page takes fewer
-abbrev pub turn_most : ℕ
-turn_most = 70
+-- the most programs of a turn of a write for so many data pages, beside those of its cleanings: fourteen, and four more for each page behind the first
+abbrev pub turn_most : (pages : ℕ) → ℕ
+turn_most pages = 14 + 4 * (pages - 1)
 
--- Only reads between two moments, or turns of cleaning: these are the moments where each turn began, the last one first. A turn cleans for two
--- index pages and the data pages of one page step at most, and one that another follows wasn't broken off.
-unfoldable pub TurnsAlong : {D : Type 0} → NorOf D → Geometry → (old new : D) → (broken : Type 0) → List D → Type 0
+-- A turn of a write: where it began, and how many data pages its page step has at most, sixteen or fewer.
+pub record WriteTurn (D : Type 0) : Type 0 where
+  pub from : D
+  pub pages : ℕ
+  pub some : 1 ≤ pages
+  pub short : pages ≤ 16
+
+-- the data pages of turns, all together
+unfoldable pub pages_in : {D : Type 0} → List (WriteTurn D) → ℕ
+pages_in [] = 0
+pages_in (turn ∷ more) = turn.pages + pages_in more
+
+-- Only reads between two moments, or turns of cleaning, the last one first. A turn cleans for two index pages and its data pages at most, and one
+-- that another follows wasn't broken off.
+unfoldable pub TurnsAlong : {D : Type 0} → NorOf D → Geometry → (old new : D) → (broken : Type 0) → List (WriteTurn D) → Type 0
 TurnsAlong nor g old new broken [] = OnlyReads nor old new
-TurnsAlong nor g old new broken (from ∷ more) = TurnsAlong nor g old from ⊥ more × CleansFor nor g 2 16 turn_most from new broken
+TurnsAlong nor g old new broken (turn ∷ more) =
+    TurnsAlong nor g old turn.from ⊥ more × CleansFor nor g 2 turn.pages (turn_most turn.pages) turn.from new broken
 
--- So many turns a write takes: one for each of its parts at most, and one more where a tail is to be made ready. `ready` says that none is.
-pub record IsFew (ready : Type 0) (parts turns : ℕ) : Type 0 where
-  pub most : turns ≤ parts + 1
-  pub few : ready → turns ≤ parts
+-- So many data pages the turns of a write have, and there are no more turns than that: one for each of its parts at most, and one more where a tail is
+-- to be made ready. `ready` says that none is.
+pub record IsFew (ready : Type 0) (parts pages : ℕ) : Type 0 where
+  pub most : pages ≤ parts + 1
+  pub few : ready → pages ≤ parts
 
 -- A write of so many parts cleans blocks in turns.
 pub record CleansInTurns {D : Type 0} (nor : NorOf D) (g : Geometry) (ready : Type 0) (parts : ℕ) (old new : D) (broken : Type 0) : Type 0 where
-  pub turns : List D
+  pub turns : List (WriteTurn D)
   pub along : TurnsAlong nor g old new broken turns
-  pub few : IsFew ready parts (length turns)
+  pub few : IsFew ready parts (pages_in turns)
 
 -- A call over a view took that step, and cleaned blocks in turns. `ready` says of which images no tail is to be made ready.
 pub record Turned {N T E : Type 0} {nor : NorOf N} (errors : Errors E) (ready : Geometry → List ℕ → Type 0) (parts : ℕ) (old new : View N nor)

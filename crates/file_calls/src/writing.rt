@@ -1,6 +1,7 @@
 // Bytes written into a file: one page step for each part, and room made before each.
 ghost use Rattle.std.specs.Prelude.{◌≡◌, ◌≢◌, ◌+◌, ◌-◌, ◌%◌, ◌<◌, ◌≤◌, ◌^◌, ℕ, Bool, List, length, None, IfSome};
 ghost use Rattle.table_model.specs.Table.{File};
+ghost use Rattle.table_model.specs.Room.{data_pages as the_data_pages};
 ghost use Rattle.geometry.specs.Numbers.{body};
 ghost use Rattle.call_model.specs.Parts.{IsPartEnd};
 ghost use Rattle.flash_view.specs.Same.{OnlyLooks};
@@ -80,7 +81,7 @@ fn append_part<N: Nor>(
 ) -> Result<(), FsErr>
     requires { length bytes.now ≤ the_append_room v.old.geometry size }
     ensures { (f : File) → size ≡ length f.bytes →
-        Turned refusing (NeedsNoTail id (length f.bytes) (size + length bytes.now)) 1 v.old v.new result (writing_part id known size bytes.now f) }
+        Turned refusing (NeedsNoTail id (length f.bytes) (size + length bytes.now)) (the_data_pages v.old.geometry (length bytes.now)) v.old v.new result (writing_part id known size bytes.now f) }
 {
     let g = v.geometry;
     need_tail(v, id, known)?;
@@ -104,7 +105,7 @@ fn write_part<N: Nor>(
 ) -> Result<(), FsErr>
     requires { size ≤ at → length bytes.now ≤ the_append_room v.old.geometry size }
     ensures { (f : File) → size ≡ length f.bytes →
-        Turned refusing (NeedsNoTail id (length f.bytes) (at + length bytes.now)) 1 v.old v.new result (writing_part id known at bytes.now f) }
+        Turned refusing (NeedsNoTail id (length f.bytes) (at + length bytes.now)) (the_data_pages v.old.geometry (length bytes.now)) v.old v.new result (writing_part id known at bytes.now f) }
 {
     if at < size {
         overwrite_part(v, id, at, bytes)

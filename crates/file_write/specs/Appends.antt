@@ -35,6 +35,10 @@ pages_most g t = if nat_lt t (head_slots g) then min (head_slots g - t) 16 else 
 abbrev pub append_room : Geometry → ℕ → ℕ
 append_room g size = if size % body g == 0 then pages_most g (size / body g) * body g else body g - size % body g
 
+-- the most programs of a page step that adds so many bytes: fourteen, and four more for each data page behind the first
+abbrev pub append_most : Geometry → (len : ℕ) → ℕ
+append_most g len = 14 + 4 * (data_pages g len - 1)
+
 -- The image is tidy, its table has this file under the id, and its tail is ready; some bytes, that one page step can add, leave it no more data pages than the volume has, and the pages for them are to be had.
 pub record CanAppend (g : Geometry) (image : List ℕ) (id : ℕ) (bytes : List ℕ) (f : File) : Type 0 where
   pub tidy : IsTidy g image

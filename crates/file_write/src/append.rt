@@ -4,7 +4,7 @@ ghost use Rattle.geometry.specs.Numbers.{body, head_slots, span_slots};
 ghost use Rattle.flash_view.specs.Places.{IsEntryPage};
 ghost use Rattle.flash_view.specs.Steps.{Stepped, stopped};
 ghost use Rattle.table_model.specs.Table.{File};
-ghost use Rattle.file_write.specs.Appends.{appending_at, appending, pages_most, append_room as the_append_room};
+ghost use Rattle.file_write.specs.Appends.{appending_at, appending, append_most, pages_most, append_room as the_append_room};
 
 use crate::batches::{BATCH, add_pages, append_room};
 use crate::create::missing;
@@ -34,7 +34,7 @@ pub(crate) fn append_near<N: Nor>(
     requires span { span ≡ found.size / body v.old.geometry }
     requires near { span < head_slots v.old.geometry }
     ensures step { (f : File) → Stepped stopped v.old v.new result (appending_at id found.header found.size from.now f) }
-    ensures few { N.device_writes v.new.nor.now ≤ N.device_writes v.old.nor.now + 70 }
+    ensures few { N.device_writes v.new.nor.now ≤ N.device_writes v.old.nor.now + append_most v.old.geometry (length from.now) }
 {
     let mut room = [0u16; BATCH];
     let count = data_pages(&v.geometry, from.len() as u32) as usize;
@@ -84,7 +84,7 @@ fn append_new<N: Nor>(
     requires end { (end ≡ found.size + length from.now) × (end < 0xFFFFFFFF) }
     requires whole { found.size % body v.old.geometry ≡ 0 }
     ensures step { (f : File) → Stepped stopped v.old v.new result (appending_at id found.header found.size from.now f) }
-    ensures few { N.device_writes v.new.nor.now ≤ N.device_writes v.old.nor.now + 70 }
+    ensures few { N.device_writes v.new.nor.now ≤ N.device_writes v.old.nor.now + append_most v.old.geometry (length from.now) }
 {
     let g = v.geometry;
     let span = found.size / g.body();
@@ -126,7 +126,7 @@ fn append_found<N: Nor>(
     requires header { IsEntryPage v.old.geometry found.header }
     requires id { (1 ≤ id) × (id ≤ 0x7FFE) }
     ensures step { (f : File) → Stepped stopped v.old v.new result (appending_at id found.header found.size from.now f) }
-    ensures few { N.device_writes v.new.nor.now ≤ N.device_writes v.old.nor.now + 70 }
+    ensures few { N.device_writes v.new.nor.now ≤ N.device_writes v.old.nor.now + append_most v.old.geometry (length from.now) }
 {
     let Some(end) = end_of(&v.geometry, found.size, from.len()) else {
         return Err(StepErr::Damaged(missing(id)));
@@ -141,10 +141,11 @@ fn append_found<N: Nor>(
 /// Adds bytes at the end of a file in one page step: at a cut they are all there or none is, a reserve that was there is there,
 /// and no block is made fresh. The image is to be tidy and the file's tail ready, with the data pages of the bytes to be had, and
 /// an index page or, where the new data page is the first of a further index page, two; the bytes are to be some, and no more
-/// than `append_room` tells. Where that holds, a fault of the device is the one error. It takes seventy programs at most.
+/// than `append_room` tells. Where that holds, a fault of the device is the one error. It takes fourteen
+/// programs at most, and four more for each data page behind the first.
 pub fn append_step<N: Nor>(v: &mut View<'_, N>, id: u16, from: &[u8]) -> Result<(), StepErr>
     ensures step { (f : File) → Stepped stopped v.old v.new result (appending id from.now f) }
-    ensures few { N.device_writes v.new.nor.now ≤ N.device_writes v.old.nor.now + 70 }
+    ensures few { N.device_writes v.new.nor.now ≤ N.device_writes v.old.nor.now + append_most v.old.geometry (length from.now) }
 {
     let Some(found) = find_home(v, id)? else {
         return Err(StepErr::Damaged(missing(id)));

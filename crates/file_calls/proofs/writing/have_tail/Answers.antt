@@ -20,13 +20,13 @@ pub returns-in_err-take_pages-clause-steps : goal.returns-in_err-take_pages-clau
 returns-in_err-take_pages-clause-steps g c =
     let is : c.from_residual-in_err-take_pages.result ≡ Err c.in_err-take_pages.field-0.0 = search rules in
     let seen = c.in_ok-is_tail_ready.ensures in
-    turned_once {k = 12} (omega arith) (omega arith) (omega arith) (λ tells can. tail_once _ (seen.told tells can.can.tidy can.there) c.if-branch.false)
+    turned_once {k = 12} 1 (omega arith) (omega arith) (omega arith) (λ tells can. (omega arith, omega arith, tail_once _ (seen.told tells can.can.tidy can.there) c.if-branch.false))
     (taken_within (omega arith) (taken_passes (taken_after seen.looks c.in_err-take_pages.ensures) is (λ tells can. tail_begins _ _ _ can)))
 
 pub returns-clause-steps : goal.returns-clause-steps
 returns-clause-steps g c =
     let seen = c.in_ok-is_tail_ready.ensures in
-    turned_once {k = 12} (omega arith) (omega arith) (omega arith) (λ tells can. tail_once _ (seen.told tells can.can.tidy can.there) c.if-branch.false)
+    turned_once {k = 12} 1 (omega arith) (omega arith) (omega arith) (λ tells can. (omega arith, omega arith, tail_once _ (seen.told tells can.can.tidy can.there) c.if-branch.false))
     (taken_then (λ k was image cut. step_leaves cut) c.in_ok-ready_tail.ensures.few (taken_after seen.looks c.in_ok-take_pages.ensures) (step_does c.in_ok-ready_tail.ensures.steps)
     (λ tells can. tail_begins _ _ _ can) (λ tells can made. tail_ends _ _ _ can _ made))
 
@@ -34,7 +34,7 @@ pub returns-in_err-ready_tail-clause-steps : goal.returns-in_err-ready_tail-clau
 returns-in_err-ready_tail-clause-steps g c =
     let seen = c.in_ok-is_tail_ready.ensures in
     rw (err_is c.from_residual-in_err-ready_tail.result c.from_residual-in_err-ready_tail.ensures.1)
-    (turned_once {k = 12} (omega arith) (omega arith) (omega arith) (λ tells can. tail_once _ (seen.told tells can.can.tidy can.there) c.if-branch.false)
+    (turned_once {k = 12} 1 (omega arith) (omega arith) (omega arith) (λ tells can. (omega arith, omega arith, tail_once _ (seen.told tells can.can.tidy can.there) c.if-branch.false))
     (taken_then (λ k was image cut. step_leaves cut) c.in_err-ready_tail.ensures.few (taken_after seen.looks c.in_ok-take_pages.ensures) (step_fails c.in_err-ready_tail.ensures.steps)
     (λ tells can. tail_begins _ _ _ can) (λ tells can made. tail_ends _ _ _ can _ made)))
 

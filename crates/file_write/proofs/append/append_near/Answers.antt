@@ -30,6 +30,18 @@ returns-in_err-add_pages-clause-step g c = λ f.
     let is : c.from_residual.result ≡ Err c.in_err-add_pages.field-0.0 = search rules in
     passes (c.in_err-add_pages.ensures.step c.args.found.header c.args.found.size f (sym c.requires.span)) is (λ tells can. record { needs = can; cut = λ x cut. cut })
 
+pub returns-in_err-add_pages-clause-few : goal.returns-in_err-add_pages-clause-few
+returns-in_err-add_pages-clause-few g c =
+    let few = near_few c.args.v.now.geometry c.args.span (length c.args.from.now) c.requires.near c.requires.fits in
+    let all = length-take-le c.data_pages-count.result (0 ∷ 0 ∷ 0 ∷ 0 ∷ 0 ∷ 0 ∷ 0 ∷ 0 ∷ 0 ∷ 0 ∷ 0 ∷ 0 ∷ 0 ∷ 0 ∷ 0 ∷ 0 ∷ []) (omega (arith, few.0, c.data_pages-count.ensures.pages)) ∙ c.data_pages-count.ensures.pages in
+    omega (arith, all, c.in_err-add_pages.ensures.few)
+
+pub returns-clause-few : goal.returns-clause-few
+returns-clause-few g c =
+    let few = near_few c.args.v.now.geometry c.args.span (length c.args.from.now) c.requires.near c.requires.fits in
+    let all = length-take-le c.data_pages-count.result (0 ∷ 0 ∷ 0 ∷ 0 ∷ 0 ∷ 0 ∷ 0 ∷ 0 ∷ 0 ∷ 0 ∷ 0 ∷ 0 ∷ 0 ∷ 0 ∷ 0 ∷ 0 ∷ []) (omega (arith, few.0, c.data_pages-count.ensures.pages)) ∙ c.data_pages-count.ensures.pages in
+    omega (arith, all, c.in_ok-add_pages.ensures.few, c.renew_from.ensures.few)
+
 pub returns-clause-step : goal.returns-clause-step
 returns-clause-step g c = λ f.
     let few = near_few c.args.v.now.geometry c.args.span (length c.args.from.now) c.requires.near c.requires.fits in

@@ -25,4 +25,7 @@ pub returns-in_default-clause-few : goal.returns-in_default-clause-few
 returns-in_default-clause-few g c = omega (arith, c.in_ok-found.ensures.looks.reads.writes)
 
 pub returns-clause-few : goal.returns-clause-few
-returns-clause-few g c = omega (arith, c.in_ok-found.ensures.looks.reads.writes, c.append_found.ensures.few)
+returns-clause-few g c =
+    let seen = c.in_ok-found.ensures.looks in
+    let few = rw seen.same.geometry at c.append_found.ensures.few in
+    omega (arith, seen.reads.writes, few)
