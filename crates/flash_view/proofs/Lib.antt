@@ -20,6 +20,6 @@ pub mod Stepped
 pub mod Sorts
 pub mod RowPassed
 pub mod Pieces
-mod Rows
+pub mod Rows
 pub mod RowSums
 pub mod Telling
