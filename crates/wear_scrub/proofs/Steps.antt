@@ -1,5 +1,5 @@
 -- A scrub step, over plain images.
-use Rattle.std.proofs.Common.{◌≡◌, ℕ, ◌+◌, ◌<◌, ⊎_elim, inr, List, [], ◌∷◌, Bool, true, false, not, refl, arith, if◌then◌else◌}
+use Rattle.std.proofs.Common.{◌≡◌, ℕ, ◌+◌, ◌<◌, ⊎_elim, inl, inr, List, [], ◌∷◌, Bool, true, false, not, refl, arith, if◌then◌else◌}
 use Rattle.std.specs.Prelude.{Option, Some, None, filter, find, option_and_then, nat_le, ◌&&◌}
 use Rattle.std.specs.List.{range_with_len, list_all}
 use Rattle.std.proofs.lemmas.Bool.{cases_Bool, and_parts}
@@ -71,7 +71,7 @@ pub moves : (g : Geometry) (image : List ℕ) (limit block age : ℕ) → IsImag
 moves g image limit block age is tidy low pick =
     let can = can_clean g image limit block tidy pick.1 in
     let three = pick.0 in
-    let may : MayCut g image block = record { can = reserve_can_clean g image is tidy (omega (arith, three)); within = low; used = can.used; reserve = λ h. omega (arith, three); gains = inr three } in
+    let may : MayCut g image block = record { can = reserve_can_clean g image is tidy (omega (arith, three)); within = low; used = can.used; reserve = λ h. omega (arith, three); gains = inr (inl three) } in
     record { needs = can; cut = λ c cut. record { keeps = cut.keeps; mends = λ two. cut.mends may } }
 
 -- and was
