@@ -173,7 +173,9 @@ ends_pages page size at len from zero big low whole =
     let same : length (ends_to page size at len from) ≡ length (ends_to page size at len (from + 0 * page)) = ap (λ (e : ℕ). length (ends_to page size at len e)) here in
     omega (arith, same)
 ends_pages page size at len from (suc k) big low whole =
-    let next : (from + page) % page ≡ 0 = subst (λ (n : ℕ). (from + (page - n)) % page ≡ 0) whole (page_ends page from big) in
+    let whole_step : (from + (page - 0)) % page ≡ 0 = subst (λ (n : ℕ). (from + (page - n)) % page ≡ 0) whole (page_ends page from big) in
+    let same_step : from + page ≡ from + (page - 0) = omega arith in
+    let next : (from + page) % page ≡ 0 = ap (λ (n : ℕ). n % page) same_step ∙ whole_step in
     let one = one_more page size at len from (from + page) low (omega (arith, big)) (page_passes page size at len (from + page) next) in
     let rest = ends_pages page size at len (from + page) k big (omega (arith, low)) next in
     let there : from + page + k * page ≡ from + suc k * page = omega arith in

@@ -253,19 +253,23 @@ needed_few g n = few_index ((n % body g == 0) && nat_le (head_slots g) (n / body
 pages_few : (g : Geometry) (at count : ℕ) → count ≡ index_needed g at → count ≤ 2
 pages_few g at count is = let few = needed_few g at in omega (arith, few, is)
 
+-- the pages of an append are its parts, sixteen or fewer
+paged_few : (g : Geometry) (was : List ℕ) (id at : ℕ) (bytes : List ℕ) (f : File) (pages : ℕ) → pages ≡ data_pages g (length bytes) → length bytes ≤ append_room g at → CanWritePart g was id true at bytes f →
+    (1 ≤ pages) × (pages ≤ 16) × IsFew (Unit {0}) (data_pages g (length bytes)) pages
+paged_few g was id at bytes f pages is room can =
+    let some = some_pages g (length bytes) can.can.some in
+    let most = room_pages g at (length bytes) room in
+    (omega (arith, some, is), omega (arith, most, is), few_once (omega (arith, is)))
+
 -- over a view
 module _ {N : Type 0} {nor : NorOf N} {old new : View N nor} {r : Result (Unit {0}) FsErr} (id at : ℕ) (bytes : List ℕ) (f : File) (end : at ≡ length f.bytes) (count pages : ℕ) (is : count ≡ index_needed old.geometry at) (pages_is : pages ≡ data_pages old.geometry (length bytes)) (room : length bytes ≤ append_room old.geometry at) where
-  -- its pages are its parts
-  paged_few : (was : List ℕ) → CanWritePart old.geometry was id true at bytes f → (1 ≤ pages) × (pages ≤ 16) × IsFew (Unit {0}) (data_pages old.geometry (length bytes)) pages
-  paged_few was can = let some = some_pages old.geometry (length bytes) can.can.some in let most = room_pages old.geometry at (length bytes) room in (omega (arith, some, pages_is), omega (arith, most, pages_is), few_once (omega (arith, pages_is)))
-
   -- no pages were had
   pub paged_not : {e : FsErr} → Taken refusing count pages 0 old new (Err e) (taking_pages count pages) → r ≡ Err e → Turned refusing (λ g was. Unit {0}) (data_pages old.geometry (length bytes)) old new r (writing_part id true at bytes f)
-  paged_not call same = turned_once pages (pages_few old.geometry at count is) (omega arith) (omega arith) (λ tells can. paged_few (nor.bytes old.nor.now) can) (taken_passes call same (λ tells can. pages_begin old.geometry (nor.bytes old.nor.now) id at bytes f can end count pages is pages_is))
+  paged_not call same = turned_once pages (pages_few old.geometry at count is) (omega arith) (omega arith) (λ tells can. paged_few old.geometry (nor.bytes old.nor.now) id at bytes f pages pages_is room can) (taken_passes call same (λ tells can. pages_begin old.geometry (nor.bytes old.nor.now) id at bytes f can end count pages is pages_is))
 
   -- .. or they were, and then the page step was taken
   pub paged_then : {mid : View N nor} {x : Unit {0}} → nor.device_writes new.nor.now ≤ nor.device_writes mid.nor.now + turn_most pages → Taken refusing count pages 0 old mid (Ok x) (taking_pages count pages) → Stepped refusing mid new r (appending id bytes f) → Turned refusing (λ g was. Unit {0}) (data_pages old.geometry (length bytes)) old new r (writing_part id true at bytes f)
-  paged_then {mid} few call next = turned_once pages (pages_few old.geometry at count is) (omega arith) (omega arith) (λ tells can. paged_few (nor.bytes old.nor.now) can)
+  paged_then {mid} few call next = turned_once pages (pages_few old.geometry at count is) (omega arith) (omega arith) (λ tells can. paged_few old.geometry (nor.bytes old.nor.now) id at bytes f pages pages_is room can)
       (taken_then (λ g was image cut. step_leaves cut) few call next
       (λ tells can. pages_begin old.geometry (nor.bytes old.nor.now) id at bytes f can end count pages is pages_is)
       (λ tells can made. pages_end old.geometry (nor.bytes old.nor.now) id at bytes f can end count pages is pages_is (nor.bytes mid.nor.now) made))
@@ -294,12 +298,12 @@ no_step call never = weaker call (λ tells need. absurd (never tells need))
 -- bytes that begin inside a file end there where they are one part of a write
 pub part_inside : {N : Type 0} {nor : NorOf N} {old new : View N nor} {r : Result (Unit {0}) FsErr} (id : ℕ) (known : Bool) (at : ℕ) (bytes : List ℕ) (f : File) → at < length f.bytes →
     ((e : File) → at + length bytes ≤ length e.bytes → Taken refusing 1 1 12 old new r (writing_part id known at bytes e)) → Turned refusing (NeedsNoTail id (length f.bytes) (at + length bytes)) (data_pages old.geometry (length bytes)) old new r (writing_part id known at bytes f)
-part_inside id known at bytes f low call = ⊎_elim
+part_inside {old = old} id known at bytes f low call = ⊎_elim
     (λ (past : length f.bytes < at + length bytes).
     let some : File = record f { bytes = replicate (at + length bytes) 0 } in
     let never : (g : Geometry) (was : List ℕ) → CanWritePart g was id known at bytes f → ⊥ = λ g was can. ⊎_elim (λ (inside : (at + length bytes ≤ length f.bytes) × (at % body g + length bytes ≤ body g)). omega (arith, inside.0, past)) (λ (end : (at ≡ length f.bytes) × (length bytes ≤ append_room g at)). omega (arith, end.0, low)) can.inside in
     turned_never (no_step (call some (let e = length-replicate {A = ℕ} (at + length bytes) 0 in omega (arith, e))).steps (λ tells can. never _ _ can)) (λ tells can. never _ _ can))
-    (λ (inside : at + length bytes ≤ length f.bytes). turned_once 1 (omega arith) (omega arith) (omega arith) (λ tells can. (omega arith, omega arith, few_once (some_pages _ (length bytes) can.can.some))) (call f inside))
+    (λ (inside : at + length bytes ≤ length f.bytes). turned_once 1 (omega arith) (omega arith) (omega arith) (λ tells can. (omega arith, omega arith, few_once (some_pages old.geometry (length bytes) can.can.some))) (call f inside))
     (cases_lt (length f.bytes) (at + length bytes))
 
 -- and others begin at its end

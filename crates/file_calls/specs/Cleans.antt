@@ -1,5 +1,5 @@
 -- Which blocks a call cleans for the pages that it takes.
-use Rattle.std.specs.Prelude.{◌≡◌, ℕ, ◌+◌, ◌*◌, ◌≤◌, ◌⊎◌, List, [], ◌∷◌, length, replicate, Option, Some, Result, IsErr}
+use Rattle.std.specs.Prelude.{◌≡◌, ℕ, ◌+◌, ◌-◌, ◌*◌, ◌≤◌, ◌⊎◌, List, [], ◌∷◌, length, replicate, Option, Some, Result, IsErr}
 use Rattle.geometry.specs.declared.geometry.Geometry.{Geometry}
 use Rattle.geometry.specs.Numbers.{body, usable}
 use Rattle.nor_core.specs.declared.state.NorState.{Ghosts as NorOf}

@@ -1,4 +1,5 @@
 pub mod Replies
+pub mod Resuming
 pub mod Opening
 pub mod Stages
 pub mod Same

@@ -1,9 +1,10 @@
-ghost use Rattle.std.specs.Prelude.{◌≡◌, ◌*◌, ◌≤◌, length, min, replicate, OnOk, IfErr, Err, None, true};
+ghost use Rattle.std.specs.Prelude.{◌≡◌, ◌*◌, ◌≤◌, length, min, replicate, OnOk, OnErr, IfErr, Err, None, true};
 ghost use Rattle.geometry.specs.Numbers.{usable, scratch_need, rows_need, work_need, cache_need, check_need};
 ghost use Rattle.nor_core.specs.Count.{Rose};
 ghost use Rattle.nor_core.specs.Device.{OnlyReads};
 ghost use Rattle.image_model.specs.Kinds.{spoiled_blocks};
 ghost use Rattle.image_model.specs.Sound.{HasMagics};
+ghost use Rattle.image_model.specs.Tidy.{TellsFree};
 ghost use Rattle.page_cache.specs.Kept.{IsKept, FewReads};
 ghost use Rattle.flash_view.specs.Same.{StaysBehind};
 ghost use Rattle.flash_view.specs.Table.{HasTable, rows_in};
@@ -18,9 +19,10 @@ use crate::stage::Stage;
 use crate::{CheckErr, Report};
 use fd_table::{FdSlot, FdTable};
 use flash_view::View;
+use free_search::count_all;
 use geometry::Geometry;
 use ix_map::IxMap;
-use nor_core::{Nor, NorState};
+use nor_core::{Failed, Nor, NorState};
 use page_cache::Cached;
 use table_model::FsErr;
 use vol_mount::{Lent, MountErr, Returned};
@@ -154,8 +156,48 @@ fn check_on<N: Nor>(
     result
 }
 
+// Counts the blocks of a volume that needs no check, and tells whether the table of counts stands then.
+fn count_on<N: Nor>(
+    g: Geometry,
+    nor: &mut N,
+    work: &mut [u8],
+    rows: &mut [u8],
+    cache: &mut [u8],
+    counted: &mut bool,
+) -> Result<(), Failed>
+    requires unit { N.unit nor.old ≡ g.phys }
+    requires fits { g.blocks * g.block ≤ N.size nor.old }
+    requires work { scratch_need g ≤ length work.old }
+    requires cache { cache_need g ≤ length cache.old }
+    requires clear { N.tells nor.old → TellsFree g (N.bytes nor.old) }
+    requires kept { IsKept N.NorState g nor.old cache.old }
+    ensures kept { IsKept N.NorState g nor.new cache.new }
+    ensures cache_size { length cache.new ≡ length cache.old }
+    ensures behind { StaysBehind N.NorState g nor.old nor.new }
+    ensures few { FewReads N.NorState g nor.old cache.old nor.new cache.new }
+    ensures cause { OnErr result (Rose (N.faults nor.old) (N.faults nor.new)) }
+    ensures looks { OnlyReads N.NorState nor.old nor.new }
+    ensures table { counted.new ≡ true → HasTable N.NorState g nor.new rows.new }
+    ensures stands { rows_need g ≤ length rows.old → OnOk result (counted.new ≡ true) }
+{
+    let mut v = View {
+        geometry: g,
+        nor,
+        work,
+        rows,
+        cache,
+        wrote: false,
+        counted: false,
+    };
+    let result = count_all(&mut v);
+    *counted = v.counted;
+    result
+}
+
 impl<'b, N: Nor> Volume<'b, N> {
-    ghost use Rattle.std.specs.Prelude.{◌≡◌, ◌*◌, ◌≤◌, length, min, replicate, OnOk, OnErr, IfErr, IsOk, Err, None, true, false};
+    ghost use Rattle.std.specs.Prelude.{◌≡◌, ◌*◌, ◌≤◌, length, min, replicate, OnOk, OnErr, IfOk, IfErr, IfSome, IsErrOf, IsOk, Ok, Err, None, true, false};
+    ghost use Rattle.image_model.specs.Tidy.{IsTidy};
+    ghost use Rattle.volume.specs.Resuming.{Resumes};
     ghost use Rattle.geometry.specs.Numbers.{work_need, cache_need, check_need};
     ghost use Rattle.nor_core.specs.Count.{Rose};
     ghost use Rattle.nor_core.specs.Device.{OnlyReads};
@@ -269,6 +311,37 @@ impl<'b, N: Nor> Volume<'b, N> {
         self.held = Held::none();
         self.stage = Stage::Checked;
         Ok(report)
+    }
+
+    /// Takes a mounted volume as checked, without a check: for a caller who knows that the image is tidy, as it is after an unmount whose
+    /// `last` was Ok, if nothing else has written since. It reads the lookup pages and the headers of pages in use, and writes nothing.
+    /// Then the volume stands as after a check: it takes calls, every descriptor is closed, and the counts of blocks are kept. Refused
+    /// is a volume that may not be written (`Wrong`). Whoever isn't sure checks.
+    #[tactic(auto, using(room_laws::proofs::Sorted::tidy_tells_free))]
+    pub fn resume(&mut self) -> Result<(), CheckErr>
+        requires mounted { is_mounted self.old.stage ≡ true }
+        requires tidy { N.tells self.old.nor.now → IsTidy self.old.geometry (N.bytes self.old.nor.now) }
+        ensures resumes { Resumes N.NorState self.old.geometry self.old.nor.now self.new.nor.now result }
+        ensures taken { OnOk result (takes_calls self.new ≡ true) }
+        ensures stage { OnErr result (self.new.stage ≡ self.old.stage) }
+        ensures counted { OnOk result (self.new.counted ≡ true) }
+        ensures closed { OnOk result (memory self.new ≡ record { slots = replicate (min 65535 (length self.old.slots.now)) None; run = None }) }
+        ensures slots { OnErr result (self.new.slots.now ≡ self.old.slots.now) }
+        ensures same { IsSameVolume self.old self.new }
+        ensures map { GivesUpMap self.old self.new }
+    {
+        self.map = IxMap::none();
+        if let Err(why) = self.geometry.writable() {
+            return Err(CheckErr::Wrong(why));
+        }
+        let g = self.geometry;
+        let work = &mut *self.work;
+        let (work, rows) = work.split_at_mut(g.scratch_need() as usize);
+        count_on(g, self.nor, work, rows, self.cache, &mut self.counted)?;
+        close_all(self.slots);
+        self.held = Held::none();
+        self.stage = Stage::Checked;
+        Ok(())
     }
 
     /// Whether a call failed after it had asked the device for a program or an erase. Then mount and check

@@ -1,4 +1,4 @@
-use Rattle.std.proofs.Common.{◌≡◌, ◌<◌, ◌≤◌, ◌+◌, ◌/◌, refl, sym, ◌∙◌, subst, ap, [], ◌∷◌, rules, Err, arith}
+use Rattle.std.proofs.Common.{◌≡◌, ℕ, ◌<◌, ◌≤◌, ◌+◌, ◌/◌, refl, sym, ◌∙◌, subst, ap, [], ◌∷◌, rules, Err, arith}
 use Rattle.std.proofs.lemmas.List.{length-take-le}
 use Rattle.std.specs.Prelude.{length}
 use Rattle.geometry.specs.Numbers.{head_slots, body}
@@ -33,13 +33,13 @@ returns-in_err-add_pages-clause-step g c = λ f.
 pub returns-in_err-add_pages-clause-few : goal.returns-in_err-add_pages-clause-few
 returns-in_err-add_pages-clause-few g c =
     let few = near_few c.args.v.now.geometry c.args.span (length c.args.from.now) c.requires.near c.requires.fits in
-    let all = length-take-le c.data_pages-count.result (0 ∷ 0 ∷ 0 ∷ 0 ∷ 0 ∷ 0 ∷ 0 ∷ 0 ∷ 0 ∷ 0 ∷ 0 ∷ 0 ∷ 0 ∷ 0 ∷ 0 ∷ 0 ∷ []) (omega (arith, few.0, c.data_pages-count.ensures.pages)) ∙ c.data_pages-count.ensures.pages in
+    let all = length-take-le {A = ℕ} c.data_pages-count.result (0 ∷ 0 ∷ 0 ∷ 0 ∷ 0 ∷ 0 ∷ 0 ∷ 0 ∷ 0 ∷ 0 ∷ 0 ∷ 0 ∷ 0 ∷ 0 ∷ 0 ∷ 0 ∷ []) (omega (arith, few.0, c.data_pages-count.ensures.pages)) ∙ c.data_pages-count.ensures.pages in
     omega (arith, all, c.in_err-add_pages.ensures.few)
 
 pub returns-clause-few : goal.returns-clause-few
 returns-clause-few g c =
     let few = near_few c.args.v.now.geometry c.args.span (length c.args.from.now) c.requires.near c.requires.fits in
-    let all = length-take-le c.data_pages-count.result (0 ∷ 0 ∷ 0 ∷ 0 ∷ 0 ∷ 0 ∷ 0 ∷ 0 ∷ 0 ∷ 0 ∷ 0 ∷ 0 ∷ 0 ∷ 0 ∷ 0 ∷ 0 ∷ []) (omega (arith, few.0, c.data_pages-count.ensures.pages)) ∙ c.data_pages-count.ensures.pages in
+    let all = length-take-le {A = ℕ} c.data_pages-count.result (0 ∷ 0 ∷ 0 ∷ 0 ∷ 0 ∷ 0 ∷ 0 ∷ 0 ∷ 0 ∷ 0 ∷ 0 ∷ 0 ∷ 0 ∷ 0 ∷ 0 ∷ 0 ∷ []) (omega (arith, few.0, c.data_pages-count.ensures.pages)) ∙ c.data_pages-count.ensures.pages in
     omega (arith, all, c.in_ok-add_pages.ensures.few, c.renew_from.ensures.few)
 
 pub returns-clause-step : goal.returns-clause-step
