@@ -3,6 +3,7 @@
 
 mod calls;
 mod checking;
+mod collecting;
 mod map_calls;
 mod mapping;
 mod saying;
