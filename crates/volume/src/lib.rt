@@ -5,6 +5,7 @@ mod calls;
 mod checking;
 mod map_calls;
 mod mapping;
+mod own;
 mod saying;
 mod scrubbing;
 mod settling;
