@@ -6,6 +6,7 @@ mod checking;
 mod collecting;
 mod map_calls;
 mod mapping;
+mod own;
 mod saying;
 mod scrubbing;
 mod settling;
