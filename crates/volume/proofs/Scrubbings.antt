@@ -1,6 +1,6 @@
 -- A scrub on a volume: what waits is put onto the chip, and then one step is made where nothing waits.
-use Rattle.std.proofs.Common.{◌≡◌, ℕ, ◌+◌, ◌≤◌, ◌⊎◌, ⊎_elim, inl, inr, List, [], length, Bool, true, false, ◌||◌, refl, sym, ◌∙◌, ap, subst, arith}
-use Rattle.std.specs.Prelude.{◌≢◌, None, Result, Ok, Err, IfOk, IfErr, MatchResult}
+use Rattle.std.proofs.Common.{◌≡◌, ℕ, ◌≤◌, ◌⊎◌, ⊎_elim, inl, inr, List, [], length, Bool, true, false, ◌||◌, refl, sym, ◌∙◌, ap, subst, arith}
+use Rattle.std.specs.Prelude.{◌≢◌, None, Result, Ok, Err, IfErr, MatchResult}
 use Rattle.std.proofs.lemmas.Bool.{cases_Bool}
 use Rattle.geometry.specs.declared.geometry.Geometry.{Geometry}
 use Rattle.nor_core.specs.declared.state.NorState.{Ghosts as NorOf}
@@ -26,7 +26,7 @@ use Rattle.call_model.proofs.Safety.{holds_safe, holds_then, holds_itself, safe_
 use Rattle.call_model.proofs.After.{settled-among}
 use Rattle.wear_scrub.specs.declared.scrubs.Scrub.{Scrub}
 use Rattle.wear_scrub.specs.declared.scrubs.Scrub.TheVariants.{NoRoom, Rested, Moved}
-use Rattle.wear_scrub.specs.Scrubs.{ScrubCut, PickDone, ScrubDone, IsAtRest, scrubbing}
+use Rattle.wear_scrub.specs.Scrubs.{IsLevel, ScrubCut, PickDone, ScrubDone, IsAtRest, scrubbing}
 use Rattle.wear_scrub.proofs.Steps.{rest_is_quiet}
 use Rattle.volume.specs.declared.stage.Stage.{Stage}
 use Rattle.volume.specs.declared.stage.Stage.TheVariants.{Checked}
@@ -65,11 +65,6 @@ done_tidy g limit before after was now scrub tidy done = ⊎_elim
 
 -- ---- answers
 
--- what holds of a step that is done, by what else holds of it
-if_ok : {P Q : Scrub → Type 0} (r : Result Scrub StepErr) → ((scrub : Scrub) → P scrub → Q scrub) → IfOk r P → IfOk r Q
-if_ok (Ok scrub) by here = by scrub here
-if_ok (Err why) by here = tt
-
 -- each way in which a step fails breaks the call, and may come where bytes wait
 all_break : (why : StepErr) → breaks (Refuses (as_fs_err why)) ≡ true
 all_break DeviceFault = refl
@@ -104,26 +99,17 @@ stage_by false why new e = inr (e, refl)
 module _ {N : Type 0} {nor : NorOf N} where
   -- a step over a view, as one on its device
   pub scrubs_on : {limit : ℕ} {old new : View N nor} {result : Result Scrub StepErr} → (nor.tells old.nor.now → IsImage old.geometry (nor.bytes old.nor.now)) →
-      Stepped stopped old new result (scrubbing limit (nor.device_writes old.nor.now) (nor.device_writes new.nor.now)) → old.wrote ≡ false → ScrubsOn nor old.geometry limit old.nor.now new.nor.now new.wrote result
-  scrubs_on {limit} {old} {new} {result} image step fresh = record {
+      Stepped stopped old new result (scrubbing limit (nor.device_writes old.nor.now) (nor.device_writes new.nor.now)) → old.wrote ≡ false →
+      (nor.tells old.nor.now → IsTidy old.geometry (nor.bytes old.nor.now) → IsLevel old.geometry (nor.bytes old.nor.now) limit → OnlyReads nor old.nor.now new.nor.now) →
+      ScrubsOn nor old.geometry limit old.nor.now new.nor.now new.wrote result
+  scrubs_on image step fresh idle = record {
     untouched = step.framed.untouched fresh;
     cause = step.cause;
     means = step.means;
     cuts = wider step.cuts (λ tells c cut tidy. cut (image tells, tidy));
     ends = λ tells tidy. step.ends tells (image tells, tidy);
-    rest = λ tells tidy rest. by result (step.ends tells (image tells, tidy)) rest;
+    rest = idle;
   }
-    where
-      unwritten : nor.device_writes new.nor.now ≤ nor.device_writes old.nor.now → OnlyReads nor old.nor.now new.nor.now
-      unwritten few = ⊎_elim
-          (λ (yes : new.wrote ≡ true). let rose = step.framed.same.asked fresh yes in absurd (omega (arith, rose, few)))
-          (λ (no : new.wrote ≡ false). step.framed.untouched fresh no)
-          (cases_Bool new.wrote)
-
-      by : (r : Result Scrub StepErr) → MatchResult r (ScrubDone old.geometry limit (nor.device_writes old.nor.now) (nor.device_writes new.nor.now) (nor.bytes old.nor.now) (nor.bytes new.nor.now)) (λ why. why ≡ DeviceFault) →
-          IsAtRest old.geometry (nor.bytes old.nor.now) limit → IfOk r (λ scrub. OnlyReads nor old.nor.now new.nor.now)
-      by (Ok scrub) done rest = unwritten (rest_is_quiet _ limit _ _ _ _ scrub rest done)
-      by (Err why) done rest = tt
 
   -- a step after which the device is only read
   scrubs_looked : {g : Geometry} {limit : ℕ} {old mid new : N} {wrote : Bool} {result : Result Scrub StepErr} → ScrubsOn nor g limit old mid wrote result → OnlyReads nor mid new → ScrubsOn nor g limit old new wrote result
@@ -135,7 +121,7 @@ module _ {N : Type 0} {nor : NorOf N} where
     ends = λ tells tidy.
         subst (λ (l : List ℕ). MatchResult result (ScrubDone g limit (nor.device_writes old) (nor.device_writes new) (nor.bytes old) l) (λ why. why ≡ DeviceFault)) (sym reads.bytes)
         (subst (λ (count : ℕ). MatchResult result (ScrubDone g limit (nor.device_writes old) count (nor.bytes old) (nor.bytes mid)) (λ why. why ≡ DeviceFault)) (sym reads.writes) (was.ends tells tidy));
-    rest = λ tells tidy rest. if_ok result (λ scrub looks. reads_then looks reads) (was.rest tells tidy rest);
+    rest = λ tells tidy level. reads_then (was.rest tells tidy level) reads;
   }
 
   pub scrubs_read : {had : Bool} {limit : ℕ} {old mid new : Volume N nor} {result : Result Scrub FsErr} → ScrubsSettled had limit old mid result → OnlyReads nor mid.nor.now new.nor.now → new.slots.now ≡ mid.slots.now → (memory new).run ≡ (memory mid).run → new.stage ≡ mid.stage → ScrubsSettled had limit old new result
@@ -195,6 +181,7 @@ module _ {N : Type 0} {nor : NorOf N} where
         empty = λ takes. absurd (closed takes);
         goes_on = λ takes. absurd (closed takes);
         rest = λ m takes. absurd (closed takes);
+        quiet = λ m takes. absurd (closed takes);
         maps = λ m takes. absurd (closed takes);
       }
 
@@ -215,7 +202,8 @@ module _ {N : Type 0} {nor : NorOf N} where
     stays = ⊎_elim (λ (stood : new.stage ≡ old.stage). inl stood) (λ (broke : (has_failed new ≡ true) × (breaks (Refuses why) ≡ true)). inr broke.0) settles.stops.stays;
     empty = λ takes_too. tt;
     goes_on = λ takes_too. tt;
-    rest = λ m takes_too none here rest. tt;
+    rest = λ m takes_too none here level. tt;
+    quiet = λ m takes_too none here rest. tt;
     maps = λ m takes_too here. keeps_broken (breaks (Refuses why)) (ap (λ (w : FsErr). breaks (Refuses w)) (settles.stands m here)) room map;
   }
 
@@ -254,6 +242,9 @@ module _ {N : Type 0} {nor : NorOf N} where
 
       cuts_by : Changes nor old.nor.now new.nor.now (λ was image. (m : Moment) → IsAt old.geometry was (memory old) m → IsSafe old.geometry was image × IsAmong (table_of old.geometry image) (from_settled m []))
       cuts_by = go_on settles.cuts scrubs.cuts (λ tells image before cut m at. let here : Holds old m = record { tells = tells; image = at } in cut_by m here image (cut (tidy_mid m here)))
+
+      settled_is : (memory old).run ≡ None → nor.bytes mid.nor.now ≡ nor.bytes old.nor.now
+      settled_is idle = ap (λ (v : Volume N nor). nor.bytes v.nor.now) (settles.idle idle).1
 
       -- it is done
       done_by : (scrub : Scrub) (m : Moment) → Holds old m → ScrubDone old.geometry limit (nor.device_writes mid.nor.now) (nor.device_writes new.nor.now) (nor.bytes mid.nor.now) (nor.bytes new.nor.now) scrub →
@@ -327,10 +318,14 @@ module _ {N : Type 0} {nor : NorOf N} where
             stays = inl stage;
             empty = λ takes_too. did.run ∙ none;
             goes_on = λ takes_too. stage;
-            rest = λ m takes_too idle here rest.
-                let settled : nor.bytes mid.nor.now ≡ nor.bytes old.nor.now = ap (λ (v : Volume N nor). nor.bytes v.nor.now) (settles.idle idle).1 in
-                let looks = scrubs.rest (stood m here).0.tells (tidy_mid m here) (subst (λ (l : List ℕ). IsAtRest old.geometry l limit) (sym settled) rest) in
-                subst (λ (v : Volume N nor). OnlyReads nor v.nor.now new.nor.now) (settles.idle idle).1 (subst (λ (r : Result Scrub StepErr). IfOk r (λ s. OnlyReads nor mid.nor.now new.nor.now)) is looks);
+            rest = λ m takes_too idle here level.
+                subst (λ (v : Volume N nor). OnlyReads nor v.nor.now new.nor.now) (settles.idle idle).1
+                (scrubs.rest (stood m here).0.tells (tidy_mid m here) (subst (λ (l : List ℕ). IsLevel old.geometry l limit) (sym (settled_is idle)) level));
+            quiet = λ m takes_too idle here rest.
+                let done : ScrubDone old.geometry limit (nor.device_writes mid.nor.now) (nor.device_writes new.nor.now) (nor.bytes mid.nor.now) (nor.bytes new.nor.now) scrub =
+                subst (λ (r : Result Scrub StepErr). MatchResult r (ScrubDone old.geometry limit (nor.device_writes mid.nor.now) (nor.device_writes new.nor.now) (nor.bytes mid.nor.now) (nor.bytes new.nor.now)) (λ why. why ≡ DeviceFault)) is (scrubs.ends (stood m here).0.tells (tidy_mid m here)) in
+                subst (λ (v : Volume N nor). nor.device_writes new.nor.now ≤ nor.device_writes v.nor.now) (settles.idle idle).1
+                (rest_is_quiet old.geometry limit _ _ _ _ scrub (subst (λ (l : List ℕ). IsAtRest old.geometry l limit) (sym (settled_is idle)) rest) done);
             maps = λ m takes_too here. subst (λ (r : Result Scrub FsErr). KeepsMap old new (breaks (told (λ s. Fine) r))) (did.is ∙ ap told_as is) keeps;
           }
       by_result (Err why) is =
@@ -361,7 +356,8 @@ module _ {N : Type 0} {nor : NorOf N} where
                 led;
             empty = λ takes_too. tt;
             goes_on = λ takes_too. tt;
-            rest = λ m takes_too idle here rest. tt;
+            rest = λ m takes_too idle here level. tt;
+            quiet = λ m takes_too idle here rest. tt;
             maps = λ m takes_too here. subst (λ (r : Result Scrub FsErr). KeepsMap old new (breaks (told (λ s. Fine) r))) (did.is ∙ ap told_as is) keeps;
           }
 

@@ -1,5 +1,5 @@
 -- What a scrub step does to a volume.
-use Rattle.std.specs.Prelude.{◌≡◌, ◌≢◌, ◌⊎◌, ℕ, List, [], Bool, true, false, ◌||◌, None, Result, Ok, Err, OnOk, IfOk, IfErr, IsErrOf, MatchResult}
+use Rattle.std.specs.Prelude.{◌≡◌, ◌≢◌, ◌⊎◌, ℕ, ◌≤◌, List, [], Bool, true, false, ◌||◌, None, Result, Ok, Err, OnOk, IfOk, IfErr, IsErrOf, MatchResult}
 use Rattle.geometry.specs.declared.geometry.Geometry.{Geometry}
 use Rattle.nor_core.specs.declared.state.NorState.{Ghosts as NorOf}
 use Rattle.nor_core.specs.Count.{Rose}
@@ -17,7 +17,7 @@ use Rattle.flash_view.specs.Steps.{is_apart, as_fs_err}
 use Rattle.call_model.specs.Safe.{IsSafe, HoldsImage}
 use Rattle.call_model.specs.Memory.{IsAt}
 use Rattle.wear_scrub.specs.declared.scrubs.Scrub.{Scrub}
-use Rattle.wear_scrub.specs.Scrubs.{ScrubCut, ScrubDone, IsAtRest}
+use Rattle.wear_scrub.specs.Scrubs.{IsLevel, ScrubCut, ScrubDone, IsAtRest}
 use Rattle.volume.specs.declared.volume.Volume.{Volume}
 use Rattle.volume.specs.Opening.{stage_after}
 use Rattle.volume.specs.Stages.{takes_calls, has_failed}
@@ -42,7 +42,7 @@ pub record ScrubsOn {D : Type 0} (nor : NorOf D) (g : Geometry) (limit : ℕ) (o
   pub cuts : Changes nor old new (λ was image. IsTidy g was → ScrubCut g was image)
   pub ends : nor.tells old → IsTidy g (nor.bytes old) →
       MatchResult result (ScrubDone g limit (nor.device_writes old) (nor.device_writes new) (nor.bytes old) (nor.bytes new)) (λ why. why ≡ StepFault)
-  pub rest : nor.tells old → IsTidy g (nor.bytes old) → IsAtRest g (nor.bytes old) limit → IfOk result (λ scrub. OnlyReads nor old new)
+  pub rest : nor.tells old → IsTidy g (nor.bytes old) → IsLevel g (nor.bytes old) limit → OnlyReads nor old new
 
 -- how a call is answered whose step went so
 abbrev pub told_as : Result Scrub StepErr → Result Scrub FsErr
@@ -88,8 +88,11 @@ module _ {N : Type 0} {nor : NorOf N} where
     -- done, nothing waits, and it takes calls as before
     pub empty : takes_calls old ≡ true → OnOk result ((memory new).run ≡ None)
     pub goes_on : takes_calls old ≡ true → OnOk result (new.stage ≡ old.stage)
-    -- where nothing waited and nothing is to move the device is only read
-    pub rest : (m : Moment) → takes_calls old ≡ true → (memory old).run ≡ None → Holds old m → IsAtRest old.geometry (nor.bytes old.nor.now) limit →
+    -- where nothing waited and no block is old enough the device is only read
+    pub rest : (m : Moment) → takes_calls old ≡ true → (memory old).run ≡ None → Holds old m → IsLevel old.geometry (nor.bytes old.nor.now) limit →
         IfOk result (λ scrub. OnlyReads nor old.nor.now new.nor.now)
+    -- nor is anything programmed or erased where one is, but none that is may be moved, and no block is worth cleaning
+    pub quiet : (m : Moment) → takes_calls old ≡ true → (memory old).run ≡ None → Holds old m → IsAtRest old.geometry (nor.bytes old.nor.now) limit →
+        IfOk result (λ scrub. nor.device_writes new.nor.now ≤ nor.device_writes old.nor.now)
     -- the map of a file stays that of the file
     pub maps : (m : Moment) → takes_calls old ≡ true → Holds old m → KeepsMap old new (breaks (told (λ scrub. Fine) result))

@@ -1,13 +1,14 @@
 // A step of scrubbing.
 ghost use Rattle.std.specs.Prelude.{◌≡◌, ◌+◌, OnErr, IfOk};
 ghost use Rattle.nor_core.specs.Count.{Rose};
+ghost use Rattle.nor_core.specs.Device.{OnlyReads};
 ghost use Rattle.image_model.specs.Tidy.{IsTidy};
 ghost use Rattle.flash_view.specs.Same.{OnlyLooks};
 ghost use Rattle.flash_view.specs.Steps.{Stepped, stopped};
 ghost use Rattle.free_search.specs.ByRows.{IsByRows};
 ghost use Rattle.wear_scrub.specs.Ages.{level_by, pick_of, IsBelow, AreAges};
 ghost use Rattle.wear_scrub.specs.Victims.{IsOldestOf};
-ghost use Rattle.wear_scrub.specs.Scrubs.{IsInside, IfLevel, IsPick, moving_picked, scrubbing};
+ghost use Rattle.wear_scrub.specs.Scrubs.{IsInside, IsLevel, IfLevel, IsPick, moving_picked, scrubbing};
 
 use crate::ages::{Aged, Ages, all_ages};
 use crate::oldest::oldest_of;
@@ -106,7 +107,9 @@ fn move_picked<N: Nor>(v: &mut View<'_, N>, limit: u16) -> Result<Scrub, StepErr
 /// are cleaned until three are free, the block that `scrub_pick` names then is cleaned, and after it others until two are free again. A cut leaves
 /// the table as it is, and where two blocks were free an uncut check gives two free blocks back.
 pub fn scrub_step<N: Nor>(v: &mut View<'_, N>, limit: u16) -> Result<Scrub, StepErr>
-    ensures { Stepped stopped v.old v.new result (scrubbing limit (N.device_writes v.old.nor.now) (N.device_writes v.new.nor.now)) }
+    ensures step { Stepped stopped v.old v.new result (scrubbing limit (N.device_writes v.old.nor.now) (N.device_writes v.new.nor.now)) }
+    ensures idle { N.tells v.old.nor.now → IsTidy v.old.geometry (N.bytes v.old.nor.now) → IsLevel v.old.geometry (N.bytes v.old.nor.now) limit →
+        OnlyReads N.NorState v.old.nor.now v.new.nor.now }
 {
     if is_level(v, limit)? {
         return Ok(Scrub::Rested);
