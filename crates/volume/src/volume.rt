@@ -352,7 +352,6 @@ impl<'b, N: Nor> Volume<'b, N> {
     /// Then the volume stands as after a check: it takes calls, every descriptor is closed, and the counts of blocks are kept. Refused
     /// are a volume that isn't mounted, or was checked since (`NotMounted`), which stays as it is, and one that may not be written
     /// (`Wrong`). Whoever isn't sure checks.
-    #[tactic(auto, using(room_laws::proofs::Sorted::tidy_tells_free))]
     pub fn resume(&mut self) -> Result<(), CheckErr>
         requires tidy { is_mounted self.old.stage ≡ true → N.tells self.old.nor.now → IsTidy self.old.geometry (N.bytes self.old.nor.now) }
         ensures resumes { is_mounted self.old.stage ≡ true → Resumes N.NorState self.old.geometry self.old.nor.now self.new.nor.now result }
@@ -368,6 +367,23 @@ impl<'b, N: Nor> Volume<'b, N> {
         if self.stage != Stage::Mounted {
             return Err(CheckErr::NotMounted);
         }
+        self.take_up()
+    }
+
+    // The same of a mounted volume.
+    #[tactic(auto, using(room_laws::proofs::Sorted::tidy_tells_free))]
+    fn take_up(&mut self) -> Result<(), CheckErr>
+        requires mounted { is_mounted self.old.stage ≡ true }
+        requires tidy { N.tells self.old.nor.now → IsTidy self.old.geometry (N.bytes self.old.nor.now) }
+        ensures resumes { Resumes N.NorState self.old.geometry self.old.nor.now self.new.nor.now result }
+        ensures taken { OnOk result (takes_calls self.new ≡ true) }
+        ensures stage { OnErr result (self.new.stage ≡ self.old.stage) }
+        ensures counted { OnOk result (self.new.counted ≡ true) }
+        ensures closed { OnOk result (memory self.new ≡ record { slots = replicate (min 65535 (length self.old.slots.now)) None; run = None }) }
+        ensures slots { OnErr result (self.new.slots.now ≡ self.old.slots.now) }
+        ensures same { IsSameVolume self.old self.new }
+        ensures map { GivesUpMap self.old self.new }
+    {
         self.map = IxMap::none();
         if let Err(why) = self.geometry.writable() {
             return Err(CheckErr::Wrong(why));
