@@ -11,6 +11,7 @@ ghost use Rattle.flash_view.specs.Table.{HasTable, rows_in};
 ghost use Rattle.fd_table.specs.Slots.{descriptors};
 ghost use Rattle.ix_map.specs.Maps.{IsMapOf};
 ghost use Rattle.vol_mount.specs.Mounts.{CountsSpoiled};
+ghost use Rattle.vol_check.specs.Owned.{OwnIf};
 ghost use Rattle.volume.specs.Checking.{ChecksVolume};
 ghost use Rattle.volume.specs.Opening.{is_open, is_mounted};
 
@@ -126,6 +127,7 @@ fn check_on<N: Nor>(
     cache: &mut [u8],
     counted: &mut bool,
     marks: &mut [u8],
+    own: bool,
 ) -> Result<Report, CheckErr>
     requires unit { N.unit nor.old ≡ g.phys }
     requires fits { g.blocks * g.block ≤ N.size nor.old }
@@ -133,6 +135,7 @@ fn check_on<N: Nor>(
     requires cache { cache_need g ≤ length cache.old }
     requires room { check_need g ≤ length marks.old }
     requires magics { N.tells nor.old → HasMagics g (N.bytes nor.old) }
+    requires owned { N.tells nor.old → OwnIf own g (N.bytes nor.old) }
     requires kept { IsKept N.NorState g nor.old cache.old }
     ensures kept { IsKept N.NorState g nor.new cache.new }
     ensures cache_size { length cache.new ≡ length cache.old }
@@ -151,7 +154,7 @@ fn check_on<N: Nor>(
         wrote: false,
         counted: false,
     };
-    let result = check_view(&mut v, marks);
+    let result = check_view(&mut v, marks, own);
     *counted = v.counted;
     result
 }
@@ -208,6 +211,7 @@ impl<'b, N: Nor> Volume<'b, N> {
     ghost use Rattle.volume.specs.Holds.{memory};
     ghost use Rattle.volume.specs.Unmounts.{UnmountsTo};
     ghost use Rattle.vol_mount.specs.Mounts.{CountsSpoiled};
+    ghost use Rattle.vol_check.specs.Owned.{OwnIf};
     ghost use Rattle.volume.specs.Checking.{ChecksVolume};
     ghost use Rattle.volume.specs.Opening.{is_mounted};
     ghost use Rattle.volume.specs.Stages.{takes_calls, has_failed};
@@ -302,11 +306,37 @@ impl<'b, N: Nor> Volume<'b, N> {
         ensures same { IsSameVolume self.old self.new }
         ensures map { GivesUpMap self.old self.new }
     {
+        self.check_as(lent, false)
+    }
+
+    // The check, told whether this engine alone wrote the volume.
+    pub(crate) fn check_as(&mut self, lent: &mut [u8], own: bool) -> Result<Report, CheckErr>
+        requires mounted { is_mounted self.old.stage ≡ true }
+        requires room { check_need self.old.geometry ≤ length lent.old }
+        requires owned { N.tells self.old.nor.now → OwnIf own self.old.geometry (N.bytes self.old.nor.now) }
+        ensures checks { ChecksVolume N.NorState self.old.geometry self.old.nor.now self.new.nor.now result }
+        ensures taken { OnOk result (takes_calls self.new ≡ true) }
+        ensures stage { OnErr result (self.new.stage ≡ self.old.stage) }
+        ensures counted { OnOk result (self.new.counted ≡ true) }
+        ensures closed { OnOk result (memory self.new ≡ record { slots = replicate (min 65535 (length self.old.slots.now)) None; run = None }) }
+        ensures slots { OnErr result (self.new.slots.now ≡ self.old.slots.now) }
+        ensures same { IsSameVolume self.old self.new }
+        ensures map { GivesUpMap self.old self.new }
+    {
         self.map = IxMap::none();
         let g = self.geometry;
         let work = &mut *self.work;
         let (work, rows) = work.split_at_mut(g.scratch_need() as usize);
-        let report = check_on(g, self.nor, work, rows, self.cache, &mut self.counted, lent)?;
+        let report = check_on(
+            g,
+            self.nor,
+            work,
+            rows,
+            self.cache,
+            &mut self.counted,
+            lent,
+            own,
+        )?;
         close_all(self.slots);
         self.held = Held::none();
         self.stage = Stage::Checked;
