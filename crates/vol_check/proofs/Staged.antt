@@ -33,9 +33,8 @@ use Rattle.page_put.specs.Kills.{deleted, killed, HalfKilled}
 use Rattle.page_put.specs.LivePages.{Stays, Cleared}
 use Rattle.page_put.proofs.Clearing.{left_half, clears_deleted}
 use Rattle.page_put.proofs.Killed.{flags_left, clears_dead}
-use Rattle.vol_check.specs.Owned.{OwnIf}
 use Rattle.vol_check.specs.Stage.{Kills, CleansEntry, CleansEntries, IsClean}
-use Rattle.vol_check.specs.Works.{Work, StageCut, step_of, Worked, cleaning_entry}
+use Rattle.vol_check.specs.Works.{Work, StageCut, step_of, Worked, MayClean, cleaning_entry}
 use Rattle.vol_check.proofs.Working.{Goes, On}
 use Rattle.vol_check.proofs.Passing.{kills_none, kills_then, kills_one}
 
@@ -136,13 +135,17 @@ cleans_nothing g a p is h quiet = record { turned = unturned g a p is h quiet; k
 
 -- ---- entry by entry
 
+-- after kills the next entry may be killed
+pub may_clean_on : (own : Bool) (g : Geometry) (a b : List ℕ) → MayClean own g a → Kills g a b → MayClean own g b
+may_clean_on own g a b may kills = record { magics = λ block low. kills.pages.magic block ∙ may.magics block low; owned = λ is. kills.own (may.owned is) }
+
 -- p entries on, with n of them killed
 pub record Cleaning (g : Geometry) (first now : List ℕ) (p n : ℕ) : Type 0 where
   pub stage : Stage g first now p n
   pub kills : Kills g first now
 
 abbrev pub cleaning_to : (own : Bool) → ℕ → Work ℕ
-cleaning_to own p = record { needs = λ g was. OwnIf own g was; done = λ g was now n. Cleaning g was now p n; idle = λ g was. IsClean g was }
+cleaning_to own p = record { needs = MayClean own; done = λ g was now n. Cleaning g was now p n; idle = λ g was. IsClean g was }
 
 pub cleaning_start : (g : Geometry) (a : List ℕ) → IsImage g a → HasMagics g a → Cleaning g a a 0 0
 cleaning_start g a is h = record { stage = stage_start g a is h; kills = kills_none g a }

@@ -69,12 +69,17 @@ pub record TurnsDoubled (g : Geometry) (p : ℕ) (bits : List ℕ) (killed : Boo
 abbrev pub making_fresh : Work Bool
 making_fresh = record { needs = λ g was. Unit {0}; done = λ g was now erased. MadeFresh g erased was now; idle = λ g was. HasAllMagics g was }
 
+-- every block has its magic, and the image is as it is told to be
+pub record MayClean (own : Bool) (g : Geometry) (image : List ℕ) : Type 0 where
+  pub magics : HasAllMagics g image
+  pub owned : OwnIf own g image
+
 abbrev pub cleaning_entry : (own : Bool) → ℕ → Work Bool
 cleaning_entry own p =
-    record { needs = λ g was. OwnIf own g was; done = λ g was now killed. CleansEntry g p killed was now; idle = λ g was. is_dead_entry g was p ≡ false }
+    record { needs = MayClean own; done = λ g was now killed. CleansEntry g p killed was now; idle = λ g was. is_dead_entry g was p ≡ false }
 
 abbrev pub cleaning_entries : (own : Bool) → Work ℕ
-cleaning_entries own = record { needs = λ g was. OwnIf own g was; done = λ g was now killed. CleansEntries g killed was now; idle = λ g was. IsClean g was }
+cleaning_entries own = record { needs = MayClean own; done = λ g was now killed. CleansEntries g killed was now; idle = λ g was. IsClean g was }
 
 -- ---- live pages that aren't wanted
 

@@ -8,11 +8,11 @@ ghost use Rattle.flash_view.specs.Places.{IsEntryPage};
 ghost use Rattle.flash_view.specs.Same.{OnlyLooks};
 ghost use Rattle.vol_check.specs.Owned.{OwnIf};
 ghost use Rattle.vol_check.specs.Stage.{is_taken_entry};
-ghost use Rattle.vol_check.specs.Works.{Worked, cleaning_entry, cleaning_entries};
+ghost use Rattle.vol_check.specs.Works.{Worked, MayClean, cleaning_entry, cleaning_entries};
 
 use crate::blank::is_blank;
 use crate::culling::is_alive_by;
-use flash_view::{View, block_of, is_entry_page};
+use flash_view::{View, is_entry_page};
 use nor_core::{Failed, Nor, NorState};
 use page_layout::{DELETED, FREE};
 use page_put::kill;
@@ -34,22 +34,19 @@ fn is_taken<N: Nor>(v: &mut View<'_, N>, page: u16, entry: u16, own: bool) -> Re
     }
 }
 
-// Whether the entry of a page is in use, and its page isn't live.
-#[tactic(auto, using(crate::proofs::Dead::lookup_is_not_dead, crate::proofs::Dead::spoiled_is_not_dead, crate::proofs::Dead::dead_told))]
+// Whether the entry of a page is in use, and its page isn't live, where every block has its magic.
+#[tactic(auto, using(crate::proofs::Dead::lookup_is_not_dead, crate::proofs::Dead::dead_told))]
 fn is_dead_entry<N: Nor>(v: &mut View<'_, N>, page: u16, own: bool) -> Result<bool, Failed>
     requires { page < page_count v.old.geometry }
     ensures cause { OnErr result (Rose (N.faults v.old.nor.now) (N.faults v.new.nor.now)) }
     ensures looks { OnlyLooks v.old v.new }
     ensures entry { IfOk result (λ dead. OnTrue dead (IsEntryPage v.old.geometry page)) }
     ensures byte { N.tells v.old.nor.now → IfOk result (λ dead. OnTrue dead (slice_index (N.bytes v.old.nor.now) (page * v.old.geometry.page + 4) < 256)) }
-    ensures told { N.tells v.old.nor.now → OwnIf own v.old.geometry (N.bytes v.old.nor.now) →
+    ensures told { N.tells v.old.nor.now → MayClean own v.old.geometry (N.bytes v.old.nor.now) →
         IfOk result (λ dead. dead ≡ the_dead_entry v.old.geometry (N.bytes v.old.nor.now) page) }
 {
     let g = v.geometry;
     if !is_entry_page(&g, page) {
-        return Ok(false);
-    }
-    if !v.has_magic(block_of(&g, page))? {
         return Ok(false);
     }
     let entry = v.entry(page)?;
@@ -68,8 +65,8 @@ fn clean_entry<N: Nor>(v: &mut View<'_, N>, page: u16, own: bool) -> Result<bool
     Ok(true)
 }
 
-/// Kills each entry that is in use and whose page isn't live, in page order: how many were killed. On a volume that this engine alone wrote
-/// the pages of free entries aren't read.
+/// Kills each entry that is in use and whose page isn't live, in page order, where every block has its magic: how many were killed. On a volume
+/// that this engine alone wrote the pages of free entries aren't read.
 pub(crate) fn clean_entries<N: Nor>(v: &mut View<'_, N>, own: bool) -> Result<u32, Failed>
     ensures most { IfOk result (λ killed. killed ≤ 65535) }
     ensures work { Worked v.old v.new result (cleaning_entries own) }

@@ -289,23 +289,27 @@ impl<'b, N: Nor> Volume<'b, N> {
     /// without its magic is made fresh, and every entry is killed that no file needs, those of damaged files too. Out of blocks that
     /// hold pages of both kinds, as other programs make them, the index pages are moved. Where fewer than two blocks are free then, blocks
     /// are cleaned until two are, or none that is worth cleaning can be cleaned: after a cut on a volume with two free blocks there are
-    /// two. Then every descriptor is closed, and the counts of blocks are kept. Refused, with nothing written, are a volume that may not
-    /// be written (`Wrong`) and one with too few free pages for the index pages of such blocks (`Mixed`). Where the device fails, or a
-    /// page that is moved reads otherwise than it was written (`Damaged`), what was done stays, and the check can be called again. There
-    /// is no map then; the bytes that are lent for one stay lent. The check works in the bytes that are lent to it, which
-    /// `vol_mount::accept_check` takes; what they hold at first doesn't matter, and when it ends they are free.
+    /// two. Then every descriptor is closed, and the counts of blocks are kept. Refused is a volume that isn't mounted, or was checked since
+    /// (`NotMounted`): it stays as it is. Refused, with nothing written, are a volume that may not be written (`Wrong`) and one with too few
+    /// free pages for the index pages of such blocks (`Mixed`). Where the device fails, or a page that is moved reads otherwise than it was
+    /// written (`Damaged`), what was done stays, and the check can be called again. There is no map then; the bytes that are lent for one stay
+    /// lent. The check works in the bytes that are lent to it, which `vol_mount::accept_check` takes; what they hold at first doesn't matter,
+    /// and when it ends they are free.
     pub fn check(&mut self, lent: &mut [u8]) -> Result<Report, CheckErr>
-        requires mounted { is_mounted self.old.stage ≡ true }
         requires room { check_need self.old.geometry ≤ length lent.old }
-        ensures checks { ChecksVolume N.NorState self.old.geometry self.old.nor.now self.new.nor.now result }
+        ensures checks { is_mounted self.old.stage ≡ true → ChecksVolume N.NorState self.old.geometry self.old.nor.now self.new.nor.now result }
+        ensures unmounted { is_mounted self.old.stage ≡ false → (result ≡ Err CheckErr.NotMounted) × (self.new ≡ self.old) }
         ensures taken { OnOk result (takes_calls self.new ≡ true) }
         ensures stage { OnErr result (self.new.stage ≡ self.old.stage) }
         ensures counted { OnOk result (self.new.counted ≡ true) }
         ensures closed { OnOk result (memory self.new ≡ record { slots = replicate (min 65535 (length self.old.slots.now)) None; run = None }) }
         ensures slots { OnErr result (self.new.slots.now ≡ self.old.slots.now) }
         ensures same { IsSameVolume self.old self.new }
-        ensures map { GivesUpMap self.old self.new }
+        ensures map { is_mounted self.old.stage ≡ true → GivesUpMap self.old self.new }
     {
+        if self.stage != Stage::Mounted {
+            return Err(CheckErr::NotMounted);
+        }
         self.check_as(lent, false)
     }
 
@@ -346,9 +350,29 @@ impl<'b, N: Nor> Volume<'b, N> {
     /// Takes a mounted volume as checked, without a check: for a caller who knows that the image is tidy, as it is after an unmount whose
     /// `last` was Ok, if nothing else has written since. It reads the lookup pages and the headers of pages in use, and writes nothing.
     /// Then the volume stands as after a check: it takes calls, every descriptor is closed, and the counts of blocks are kept. Refused
-    /// is a volume that may not be written (`Wrong`). Whoever isn't sure checks.
-    #[tactic(auto, using(room_laws::proofs::Sorted::tidy_tells_free))]
+    /// are a volume that isn't mounted, or was checked since (`NotMounted`), which stays as it is, and one that may not be written
+    /// (`Wrong`). Whoever isn't sure checks.
     pub fn resume(&mut self) -> Result<(), CheckErr>
+        requires tidy { is_mounted self.old.stage ≡ true → N.tells self.old.nor.now → IsTidy self.old.geometry (N.bytes self.old.nor.now) }
+        ensures resumes { is_mounted self.old.stage ≡ true → Resumes N.NorState self.old.geometry self.old.nor.now self.new.nor.now result }
+        ensures unmounted { is_mounted self.old.stage ≡ false → (result ≡ Err CheckErr.NotMounted) × (self.new ≡ self.old) }
+        ensures taken { OnOk result (takes_calls self.new ≡ true) }
+        ensures stage { OnErr result (self.new.stage ≡ self.old.stage) }
+        ensures counted { OnOk result (self.new.counted ≡ true) }
+        ensures closed { OnOk result (memory self.new ≡ record { slots = replicate (min 65535 (length self.old.slots.now)) None; run = None }) }
+        ensures slots { OnErr result (self.new.slots.now ≡ self.old.slots.now) }
+        ensures same { IsSameVolume self.old self.new }
+        ensures map { is_mounted self.old.stage ≡ true → GivesUpMap self.old self.new }
+    {
+        if self.stage != Stage::Mounted {
+            return Err(CheckErr::NotMounted);
+        }
+        self.take_up()
+    }
+
+    // The same of a mounted volume.
+    #[tactic(auto, using(room_laws::proofs::Sorted::tidy_tells_free))]
+    fn take_up(&mut self) -> Result<(), CheckErr>
         requires mounted { is_mounted self.old.stage ≡ true }
         requires tidy { N.tells self.old.nor.now → IsTidy self.old.geometry (N.bytes self.old.nor.now) }
         ensures resumes { Resumes N.NorState self.old.geometry self.old.nor.now self.new.nor.now result }

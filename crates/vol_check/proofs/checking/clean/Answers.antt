@@ -14,12 +14,12 @@ returns-in_err-erased g c = stops c.in_err-erased.ensures c.from_residual.ensure
 
 pub returns-in_err-dead : goal.returns-in_err-dead
 returns-in_err-dead g c =
-    works_stop c.in_ok-erased.ensures c.in_err-dead.ensures.work c.from_residual-in_err-dead.ensures.0 (λ tells magics need. record { needs = tt; idle = λ tidy. tidy.magic }) (λ tells magics need made. record { needs = λ is. made.own (need is); idle = λ tidy. tidy_clean _ _ tidy })
+    works_stop c.in_ok-erased.ensures c.in_err-dead.ensures.work c.from_residual-in_err-dead.ensures.0 (λ tells magics need. record { needs = tt; idle = λ tidy. tidy.magic }) (λ tells magics need made. record { needs = record { magics = made.magics; owned = λ is. made.own (need is) }; idle = λ tidy. tidy_clean _ _ tidy })
 
 -- after the block without its magic and the dead entries
 ready : (g : Over) (c : In_ok-dead g) → Worked {nor = g.N.NorState} c.args.v.now c.clean_entries.new.v (Ok (c.in_ok-erased.erased, c.in_ok-dead.dead)) (readying c.args.own)
 ready g c =
-    works_end c.in_ok-erased.ensures c.in_ok-dead.ensures.work (λ tells magics need. record { needs = tt; idle = λ tidy. tidy.magic }) (λ tells magics need made. record { needs = λ is. made.own (need is); idle = λ tidy. tidy_clean _ _ tidy })
+    works_end c.in_ok-erased.ensures c.in_ok-dead.ensures.work (λ tells magics need. record { needs = tt; idle = λ tidy. tidy.magic }) (λ tells magics need made. record { needs = record { magics = made.magics; owned = λ is. made.own (need is) }; idle = λ tidy. tidy_clean _ _ tidy })
     (λ tells magics need made kept cleans. record { image = _; made = made; cleans = cleans })
 
 pub count_all-requires : goal.count_all-requires
