@@ -11,7 +11,7 @@ ghost use Rattle.tool_parts.specs.Later.{IsLater, IsLaterStatus};
 ghost use Rattle.tool_parts.specs.Lent.{lengths_of};
 ghost use Rattle.tool_parts.specs.Begins.{closed_memory};
 ghost use Rattle.tool_parts.specs.Reads.{ReadsOnce};
-ghost use Rattle.tool_core.specs.Scrubbing.{Makes, IsStepDone, Scrubbed, IsTally, ScrubEnds, ScrubsTo, DoesScrub, scrub_text, why_text, has_moved};
+ghost use Rattle.tool_core.specs.Scrubbing.{Makes, IsStepDone, AreSteps, IsTally, ScrubEnds, ScrubsTo, DoesScrub, scrub_text, why_text, has_moved};
 
 use crate::finishing::unsettled;
 use geometry::Geometry;
@@ -98,7 +98,7 @@ fn scrub_all<B: Board>(volume: &mut Volume<'_, B>, limit: u16) -> Result<Steps, 
     ensures taken { OnOk result (takes_calls volume.new ≡ true) }
     ensures same { IsSameVolume volume.old volume.new }
     ensures makes { (slots : ℕ) → memory volume.old ≡ closed_memory slots →
-        Makes B.NorState volume.old.geometry slots volume.old.nor.now volume.new.nor.now (memory volume.new) result (Scrubbed volume.old.geometry limit) }
+        Makes B.NorState volume.old.geometry slots volume.old.nor.now volume.new.nor.now (memory volume.new) result (AreSteps volume.old.geometry limit) }
 {
     let blocks = volume.geometry.blocks();
     let mut moved = 0;

@@ -19,11 +19,11 @@ steps-preserved g c = record {
   stands = c.in_ok-scrub.ensures.taken;
   blocks = c.steps.invariant.blocks;
   few = omega (arith, c.steps.invariant.few);
-  makes = λ slots closed. makes_more c.steps.moved c.in_ok-scrub.scrub c.steps.volume.geometry (sym c.if-branch.true ∙ c.has_moved.ensures) c.steps.invariant.same.geometry (c.steps.invariant.makes slots closed) (λ still. c.in_ok-scrub.ensures.makes slots still);
+  makes = λ slots closed. makes_more c.steps.moved c.in_ok-scrub.scrub c.steps.volume.geometry (sym c.if-has_moved.true ∙ c.has_moved.ensures) c.steps.invariant.same.geometry (c.steps.invariant.makes slots closed) (λ still. c.in_ok-scrub.ensures.makes slots still);
 }
 
-pub returns-else-branch-clause-makes : goal.returns-else-branch-clause-makes
-returns-else-branch-clause-makes g c = λ slots closed. makes_rest c.steps.moved c.in_ok-scrub.scrub c.steps.volume.geometry (sym c.if-branch.false ∙ c.has_moved.ensures) c.steps.invariant.same.geometry (omega (arith, c.steps.invariant.few, c.steps.invariant.blocks)) (c.steps.invariant.makes slots closed) (λ still. c.in_ok-scrub.ensures.makes slots still)
+pub returns-else-has_moved-clause-makes : goal.returns-else-has_moved-clause-makes
+returns-else-has_moved-clause-makes g c = λ slots closed. makes_rest c.steps.moved c.in_ok-scrub.scrub c.steps.volume.geometry (sym c.if-has_moved.false ∙ c.has_moved.ensures) c.steps.invariant.same.geometry (omega (arith, c.steps.invariant.few, c.steps.invariant.blocks)) (c.steps.invariant.makes slots closed) (λ still. c.in_ok-scrub.ensures.makes slots still)
 
 pub returns-in_err-scrub-clause-makes : goal.returns-in_err-scrub-clause-makes
 returns-in_err-scrub-clause-makes g c =
