@@ -2,7 +2,7 @@
 
 use crate::chip::Chip;
 use crate::drawn;
-use crate::model::{Model, Table, Write};
+use crate::model::{Model, Table, Write, has_room};
 use liverymenhir::{FsErr, OpenFlags, Volume, Whence};
 
 /// A descriptor: its number, the file, its offset, and whether it appends and writes at once.
@@ -30,6 +30,8 @@ pub struct Life<'v, 'b, 'm> {
     leaves: Leaves,
     pub body: usize,
     pub refusals: u64,
+    /// Whether two blocks were free before the call under way.
+    pub has_two: bool,
 }
 
 /// The power went off, or something is wrong.
@@ -80,6 +82,7 @@ impl<'v, 'b, 'm> Life<'v, 'b, 'm> {
             leaves: Leaves::Files(Table::new()),
             body,
             refusals: 0,
+            has_two: false,
         }
     }
 
@@ -106,7 +109,8 @@ impl<'v, 'b, 'm> Life<'v, 'b, 'm> {
     }
 
     fn name(&mut self) -> String {
-        format!("name{}", self.draw(16))
+        let names = self.volume.geometry.blocks() as usize;
+        format!("name{}", self.draw(names))
     }
 
     // Does a call that leaves these files, and tells its answer, or the refusal that the call may give.
@@ -126,20 +130,34 @@ impl<'v, 'b, 'm> Life<'v, 'b, 'm> {
         }
     }
 
-    // Whether a refusal for want of room is one that may be given.
+    // Whether there is room for the files that the call would leave.
+    fn has_room(&self) -> bool {
+        let after = match &self.leaves {
+            Leaves::Files(table) => table.clone(),
+            Leaves::Write(write) => {
+                let mut table = self.model.now();
+                write.put(write.bytes.len(), &mut table);
+                table
+            }
+        };
+        has_room(self.volume.geometry.blocks() as usize, &after)
+    }
+
+    // Whether a refusal for want of room is one that is to be given.
     fn refused(&mut self, what: &str, why: FsErr) -> Goes {
         self.refusals += 1;
-        let pages = |bytes: usize| 2 + bytes / self.body;
-        let used: usize = self
-            .model
-            .now()
-            .values()
-            .map(|file| pages(file.len()))
-            .sum();
-        let usable = (self.volume.geometry.blocks() - 2) * self.volume.geometry.entries();
         match why {
-            FsErr::Full if 2 * used > usable as usize => Ok(()),
-            why => wrong(format!("{what}: {why:?}, {used} of {usable} pages used")),
+            FsErr::Tight if !self.has_two => Ok(()),
+            FsErr::Full if !self.has_room() => Ok(()),
+            why => wrong(format!("{what}: {why:?}")),
+        }
+    }
+
+    // Whether a call that was done had room.
+    fn done(&mut self, what: &str) -> Goes {
+        match self.has_room() {
+            true => Ok(()),
+            false => wrong(format!("{what} without room")),
         }
     }
 
@@ -152,7 +170,8 @@ impl<'v, 'b, 'm> Life<'v, 'b, 'm> {
             self.call(after, |volume| volume.create(name.as_bytes()))?,
             is_there,
         ) {
-            (Ok(()), false) | (Err(FsErr::ConflictingName | FsErr::FileExists), true) => Ok(()),
+            (Ok(()), false) => self.done("create"),
+            (Err(FsErr::ConflictingName), true) => Ok(()),
             (Err(why), false) => self.refused("create", why),
             (told, _) => wrong(format!("create of {name}: {told:?}")),
         }
@@ -212,7 +231,7 @@ impl<'v, 'b, 'm> Life<'v, 'b, 'm> {
             4 => 1 + self.draw(600),
             5 => self.body * (1 + self.draw(4)),
             6 => 4096,
-            _ => 1 + self.draw(9000),
+            _ => 1 + self.draw(560 * self.volume.geometry.blocks() as usize),
         }
     }
 
@@ -238,7 +257,10 @@ impl<'v, 'b, 'm> Life<'v, 'b, 'm> {
         };
         self.leaves = Leaves::Write(write.clone());
         match self.volume.write(number, &write.bytes) {
-            Ok(count) if count as usize == length => self.wrote(i, write, direct),
+            Ok(count) if count as usize == length => {
+                self.done("write")?;
+                self.wrote(i, write, direct)
+            }
             Err(FsErr::DeviceFault) => Err(End::Off),
             Err(why) => self.refused("write", why),
             Ok(count) => wrong(format!("{count} of {length} bytes written")),
@@ -395,7 +417,8 @@ impl<'v, 'b, 'm> Life<'v, 'b, 'm> {
     fn collect(&mut self) -> Goes {
         let now = self.model.now();
         match self.call(now, |volume| volume.gc())? {
-            Ok(()) | Err(FsErr::Tight) => Ok(()),
+            Ok(()) => Ok(()),
+            Err(FsErr::Tight) if !self.has_two => Ok(()),
             Err(why) => wrong(format!("gc: {why:?}")),
         }
     }
@@ -423,8 +446,17 @@ impl<'v, 'b, 'm> Life<'v, 'b, 'm> {
         }
     }
 
-    /// One drawn call.
+    /// One drawn call. With two free blocks it leaves two.
     pub fn step(&mut self) -> Goes {
+        self.has_two = has_two(self.volume)?;
+        self.call_drawn()?;
+        match !self.has_two || has_two(self.volume)? {
+            true => Ok(()),
+            false => wrong("two blocks were free before the call, and aren't after it".into()),
+        }
+    }
+
+    fn call_drawn(&mut self) -> Goes {
         match self.draw(64) {
             0..2 => self.create(),
             2..12 => self.open(),
@@ -441,6 +473,14 @@ impl<'v, 'b, 'm> Life<'v, 'b, 'm> {
             61..63 => self.stat(),
             _ => self.compare(),
         }
+    }
+}
+
+/// Whether two blocks are free.
+pub fn has_two(volume: &mut Volume<'_, Chip>) -> Result<bool, End> {
+    match volume.space() {
+        Ok(space) => Ok(space.free_blocks >= 2),
+        Err(why) => wrong(format!("space: {why:?}")),
     }
 }
 

@@ -2,7 +2,8 @@
 //!
 //! The volume has pages of 256 bytes and blocks of 4,096, in memory. COUNT calls are made, and their answers, and all files now and then, are held
 //! against files in memory. The power goes off inside drawn programs and erases, also while the volume is checked. Then the files have to be those
-//! at some point of the calls, no earlier than the last one that returned but for bytes that may wait. A life of the volume that isn't cut ends
+//! at some point of the calls, no earlier than the last one that returned but for bytes that may wait. With two free blocks each call, and a cut in it
+//! with a check that isn't cut, leaves two, and no call but one that truncates is refused as `Tight`. A life of the volume that isn't cut ends
 //! by an unmount, and half of these are followed by a `resume` in the place of a check. It tells how many calls, cuts and refusals there were; at the
 //! first thing that is wrong it tells that, and ends with 1.
 
@@ -11,7 +12,7 @@ mod life;
 mod model;
 
 use chip::Chip;
-use life::{End, Life, files_of, sizes};
+use life::{End, Life, files_of, has_two, sizes};
 use liverymenhir::{CheckErr, FdSlot, FsErr, Geometry, Lent, MagicKind, MountErr, Volume, format};
 use model::{Model, Table, Write};
 use std::env;
@@ -45,6 +46,8 @@ struct Soak {
     seed: u64,
     left: Left,
     is_tidy: bool,
+    // whether two blocks were free before the call that was cut, and no check was cut since
+    had_two: bool,
     calls: u64,
     cuts: u64,
     resumes: u64,
@@ -105,6 +108,7 @@ impl Soak {
         let mut volume = Volume::new(*g, chip, lent);
         let Some(found) = Self::start(g, &mut volume, &mut memory.check, resume)? else {
             self.cuts += 1;
+            self.had_two = false;
             return Ok(());
         };
         let body = g.body() as usize;
@@ -118,6 +122,13 @@ impl Soak {
             ));
         }
         model.settle(found);
+        match has_two(&mut volume) {
+            Ok(false) if self.had_two => {
+                return Err("fewer than two free blocks after a start".into());
+            }
+            Ok(_) => {}
+            Err(_) => return Err("no space is told".into()),
+        }
         let calls = 1 + u64::from(drawn(seed, 2000));
         let mut life = Life::new(&mut volume, model, seed, body);
         for _ in 0..calls.min(most) {
@@ -128,6 +139,7 @@ impl Soak {
                 Err(End::Off) => {
                     self.cuts += 1;
                     self.refusals += life.refusals;
+                    self.had_two = life.has_two;
                     self.left = Some(life.under_way());
                     return Ok(());
                 }
@@ -135,6 +147,7 @@ impl Soak {
         }
         self.refusals += life.refusals;
         let now = model.now();
+        self.had_two = matches!(has_two(&mut volume), Ok(true));
         self.left = Some((None, now));
         match volume.unmount().last {
             Ok(()) => {
@@ -183,6 +196,7 @@ fn main() -> Result<(), Box<dyn Error>> {
         seed: seed.wrapping_mul(0x9E37_79B9_7F4A_7C15),
         left: None,
         is_tidy: false,
+        had_two: true,
         calls: 0,
         cuts: 0,
         resumes: 0,

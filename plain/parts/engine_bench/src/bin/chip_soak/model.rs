@@ -5,6 +5,18 @@ use std::collections::BTreeMap;
 /// The bytes of each file, by its name.
 pub type Table = BTreeMap<String, Vec<u8>>;
 
+/// Whether a volume of pages of 256 bytes and so many blocks has room for these files: their index pages and their data pages, each kind and one more
+/// in blocks of its own, leave two blocks.
+pub fn has_room(blocks: usize, table: &Table) -> bool {
+    let (mut index, mut data) = (1, 1);
+    for file in table.values() {
+        let pages = file.len().div_ceil(251);
+        index += 1 + pages.saturating_sub(105).div_ceil(124);
+        data += pages;
+    }
+    index.div_ceil(15) + data.div_ceil(15) + 2 <= blocks
+}
+
 /// Bytes that are written to a file.
 #[derive(Clone, Debug)]
 pub struct Write {
