@@ -17,7 +17,7 @@ fn image_of(script: &str) -> Vec<u8> {
     run_over(&formatted(&small()), script).1.image
 }
 
-// A file `a` of three data pages, whose header page is page 4 of the volume.
+// A file `a` of three data pages, whose header page is page 2 of the volume.
 const FILE: &str = "create a\nopen a 20\nfill 1 600 41\nclose 1\n";
 
 // The events of these numbers, in this order.
@@ -114,8 +114,16 @@ fn bytes_wait_until_the_next_call() {
 
 #[test]
 fn a_block_is_erased_only_once_its_pages_are_elsewhere() {
-    let two = "create a\nopen a 20\nfill 1 1100 41\nclose 1\ncreate b\nopen b 20\nfill 1 900 42\nclose 1\nremove a\n";
-    let (trial, told) = run_over(&image_of(two), "gc\n");
+    // each data page is appended by a call of its own, so that most pages of block 0 are old header pages
+    let a = format!(
+        "create a\nopen a 52\n{}fill 1 96 41\nclose 1\n",
+        "fill 1 251 41\n".repeat(4)
+    );
+    let b = format!(
+        "create b\nopen b 52\n{}fill 1 147 42\nclose 1\n",
+        "fill 1 251 42\n".repeat(3)
+    );
+    let (trial, told) = run_over(&image_of(&format!("{a}{b}remove a\n")), "gc\n");
     // the header page of b moves out of block 0 by four programs, and two kill the old one
     assert_eq!(told.events[6], Noted::Erase(0));
     assert_eq!(trial.judge(&told.events), legal(told.events.len(), 1));
@@ -136,11 +144,11 @@ fn a_block_is_erased_only_once_its_pages_are_elsewhere() {
 
 #[test]
 fn of_two_header_pages_the_first_one_counts() {
-    // power was cut before the old header page was killed: the new one lies behind it, and names a data page
+    // power was cut before the old header page was killed: the new one lies behind it, and names three data pages
     let g = small();
     let first = formatted(&g);
     let (_, told) = run_over(&first, FILE);
-    let (trial, told) = run_over(&image_after(&g, &first, &told.events[..14]), "info\n");
+    let (trial, told) = run_over(&image_after(&g, &first, &told.events[..22]), "info\n");
     assert_eq!(told.said, b"ok files 1 index 1 data 0 usable 210\n");
     assert_eq!(trial.judge(&told.events), legal(told.events.len(), 1));
     let mut events = told.events.clone();
