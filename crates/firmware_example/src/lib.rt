@@ -12,7 +12,7 @@ use geometry::{Geometry, MagicKind};
 use nor_core::{Nor, NorState};
 use table_model::{FsErr, Info};
 pub use trouble::Trouble;
-use vol_mount::{Lent, Returned, accept, accept_check};
+use vol_mount::{Lent, Returned, accept, accept_check, format};
 use volume::{Unmounted, Volume};
 
 /// Sees that the file `boot` is on the chip, and answers how full the volume is. To be called when the device starts, and
@@ -62,6 +62,35 @@ pub fn sleep_once<N: Nor>(chip: &mut N, lent: Lent<'_>, marks: &mut [u8]) -> Res
     wake(g, nor, lent)
 }
 
+// Opens a volume in order, which nobody else has written.
+#[tactic(auto, using(vol_check::proofs::Owning::tidy_own))]
+fn open_own<N: Nor>(
+    g: Geometry,
+    chip: &mut N,
+    lent: Lent<'_>,
+    marks: &mut [u8],
+) -> Result<Info, Trouble>
+    requires tidy { N.tells chip.old → IsTidy g (N.bytes chip.old) }
+    ensures cause { IfErr result (λ why. tells_fault why ≡ true → Rose (N.faults chip.old) (N.faults chip.new)) }
+{
+    accept(&g, chip, &lent)?;
+    accept_check(&g, marks)?;
+    let mut volume = Volume::new(g, chip, lent);
+    volume.mount()?;
+    volume.check_own(marks)?;
+    Ok(volume.info()?)
+}
+
+/// Makes an empty volume of a new chip, and opens it. A check need not read free pages there, since nobody else has written the volume.
+/// Answers how full it is.
+pub fn first_start<N: Nor>(chip: &mut N, lent: Lent<'_>, marks: &mut [u8]) -> Result<Info, Trouble>
+    ensures cause { IfErr result (λ why. tells_fault why ≡ true → Rose (N.faults chip.old) (N.faults chip.new)) }
+{
+    let g = Geometry::new(256, 4096, 16, 4096, 0, MagicKind::Length)?;
+    format(&g, chip)?;
+    open_own(g, chip, lent, marks)
+}
+
 #[cfg(test)]
 mod tests {
     use super::*;
@@ -70,7 +99,7 @@ mod tests {
     use nor_memory::{CallKind, MemBoard};
     use std::alloc::Global;
     use std::test::Fail;
-    use vol_mount::{AcceptErr, format};
+    use vol_mount::AcceptErr;
 
     // A chip of 64 KiB with an empty volume.
     fn formatted(alloc: Global) -> Result<MemBoard, Fail> {
@@ -80,8 +109,15 @@ mod tests {
         Ok(board)
     }
 
-    // What a start, or a sleep, answers in memory that is lent anew.
-    fn answered(board: &mut MemBoard, sleeps: bool) -> Result<Info, Trouble> {
+    // How a device begins.
+    enum Way {
+        New,
+        Start,
+        Sleep,
+    }
+
+    // What that answers in memory that is lent anew.
+    fn answered(board: &mut MemBoard, way: Way) -> Result<Info, Trouble> {
         let mut work = [0u8; 2048];
         let mut slots = [FdSlot::empty()];
         let mut cache = [0u8; 1024];
@@ -93,16 +129,16 @@ mod tests {
             cache: &mut cache,
             window: &mut window,
         };
-        if sleeps {
-            sleep_once(board, lent, &mut marks)
-        } else {
-            start(board, lent, &mut marks)
+        match way {
+            Way::New => first_start(board, lent, &mut marks),
+            Way::Start => start(board, lent, &mut marks),
+            Way::Sleep => sleep_once(board, lent, &mut marks),
         }
     }
 
     // What a start answers.
     fn started(board: &mut MemBoard) -> Result<Info, Trouble> {
-        answered(board, false)
+        answered(board, Way::Start)
     }
 
     #[test]
@@ -121,11 +157,19 @@ mod tests {
     }
 
     #[test]
+    fn a_new_chip_is_made_and_opened(rt: HostRuntime) -> Result<(), Fail> {
+        let mut board = MemBoard::new(rt.alloc(), vec![in rt.alloc(); 0xFFu8; 65536]?, 4096)?;
+        assert!(rt; answered(&mut board, Way::New).ok().map(|info| info.files) == Some(0));
+        assert!(rt; started(&mut board).ok().map(|info| info.files) == Some(1));
+        Ok(())
+    }
+
+    #[test]
     fn the_file_is_there_after_a_sleep(rt: HostRuntime) -> Result<(), Fail> {
         let mut board = formatted(rt.alloc())?;
-        assert!(rt; answered(&mut board, true).ok().map(|info| info.files) == Some(0));
+        assert!(rt; answered(&mut board, Way::Sleep).ok().map(|info| info.files) == Some(0));
         assert!(rt; started(&mut board).is_ok());
-        assert!(rt; answered(&mut board, true).ok().map(|info| info.files) == Some(1));
+        assert!(rt; answered(&mut board, Way::Sleep).ok().map(|info| info.files) == Some(1));
         Ok(())
     }
 

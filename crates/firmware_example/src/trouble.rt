@@ -4,7 +4,7 @@ ghost use Rattle.firmware_example.specs.declared.trouble.Trouble.{Trouble};
 
 use geometry::GeoErr;
 use table_model::FsErr;
-use vol_mount::{AcceptErr, MountErr};
+use vol_mount::{AcceptErr, FormatErr, MountErr};
 use volume::CheckErr;
 
 /// Why a device can't use its volume.
@@ -12,6 +12,8 @@ use volume::CheckErr;
 pub enum Trouble {
     /// The numbers, the chip or the lent memory don't fit.
     Accept(AcceptErr),
+    /// No volume could be made.
+    Format(FormatErr),
     /// The chip holds no volume, or failed while that was looked for.
     Mount(MountErr),
     /// The check refused the volume, or the chip failed in it.
@@ -33,6 +35,14 @@ impl From<AcceptErr> for Trouble {
 
     fn from(why: AcceptErr) -> Trouble {
         Trouble::Accept(why)
+    }
+}
+
+impl From<FormatErr> for Trouble {
+    ghost from_gives = { λ why trouble. trouble ≡ Trouble.Format why };
+
+    fn from(why: FormatErr) -> Trouble {
+        Trouble::Format(why)
     }
 }
 
