@@ -224,7 +224,9 @@ A soak is a line `turns N ok A refused B files F bytes S`: turns in all, those
 that did what was asked, those that were refused, files and bytes in the end.
 
 A scrub is a line `moved N free F`: blocks whose files were moved, and that
-were erased, and free blocks in the end.
+were erased, and free blocks in the end. If N is 0 a line says why: `level`, no
+block is LIMIT erases older than each free one, or `no room`, none of those may
+be moved.
 
 A map is a line `SPAN PAGE` for each data page of the file, at most 4096: its
 number in the file, from 0, and the page of the volume that holds it.

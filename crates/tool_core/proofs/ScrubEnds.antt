@@ -41,10 +41,11 @@ module _ {D : Type 0} {nor : NorOf D} {g : Geometry} {slots limit : ℕ} where
   pub ends_stopped : {old new : D} {now : Memory} (ending : Ending) → Makes {T = Tally} nor g slots old new now (Err ending) (IsTally g limit) → ScrubEnds nor g limit old new ending
   ends_stopped ending made = inl (record { changes = made.changes; fault = made.done })
 
-  says_tally : {old mid new : D} {w : Memory} {piece : List ℕ} (tally : Tally) (result : Ending) → Makes nor g slots old mid w (Ok tally) (IsTally g limit) → piece ≡ scrub_text tally.moved tally.free → Says nor mid new piece → Leaves nor mid new (InSay nor mid piece) →
+  says_tally : {old mid new : D} {w : Memory} {piece : List ℕ} (tally : Tally) (result : Ending) → Makes nor g slots old mid w (Ok tally) (IsTally g limit) → piece ≡ scrub_text tally.moved tally.free tally.last → Says nor mid new piece → Leaves nor mid new (InSay nor mid piece) →
       ((result ≡ BoardFault) ⊎ ((result ≡ Done) × (nor.tells mid → nor.said new ≡ nor.said mid ++ piece))) → SaysScrub nor g limit old new result
   says_tally {old} {mid} {new} tally result made is says cuts ends = record {
     moved = tally.moved;
+    last = tally.last;
     free = tally.free;
     mid = mid;
     changes = made.changes;
@@ -55,12 +56,12 @@ module _ {D : Type 0} {nor : NorOf D} {g : Geometry} {slots limit : ℕ} where
   }
 
   -- the line was said
-  pub ends_said : {old mid new : D} {w : Memory} {piece : List ℕ} (tally : Tally) → Makes nor g slots old mid w (Ok tally) (IsTally g limit) → piece ≡ scrub_text tally.moved tally.free → Says nor mid new piece → Leaves nor mid new (InSay nor mid piece) → (nor.tells mid → nor.said new ≡ nor.said mid ++ piece) →
+  pub ends_said : {old mid new : D} {w : Memory} {piece : List ℕ} (tally : Tally) → Makes nor g slots old mid w (Ok tally) (IsTally g limit) → piece ≡ scrub_text tally.moved tally.free tally.last → Says nor mid new piece → Leaves nor mid new (InSay nor mid piece) → (nor.tells mid → nor.said new ≡ nor.said mid ++ piece) →
       ScrubEnds nor g limit old new Done
   ends_said tally made is says cuts whole = inr (says_tally tally Done made is says cuts (inr (refl, whole)))
 
   -- the board failed as it was said
-  pub ends_broken : {old mid new : D} {w : Memory} {piece : List ℕ} (tally : Tally) → Makes nor g slots old mid w (Ok tally) (IsTally g limit) → piece ≡ scrub_text tally.moved tally.free → Says nor mid new piece → Leaves nor mid new (InSay nor mid piece) → ScrubEnds nor g limit old new BoardFault
+  pub ends_broken : {old mid new : D} {w : Memory} {piece : List ℕ} (tally : Tally) → Makes nor g slots old mid w (Ok tally) (IsTally g limit) → piece ≡ scrub_text tally.moved tally.free tally.last → Says nor mid new piece → Leaves nor mid new (InSay nor mid piece) → ScrubEnds nor g limit old new BoardFault
   ends_broken tally made is says cuts = inr (says_tally tally BoardFault made is says cuts (inl refl))
 
 -- ---- with the check before the steps
@@ -98,16 +99,17 @@ module _ {D : Type 0} {nor : NorOf D} {g : Geometry} where
   })
 
   -- a volume whose images end the scrub
-  speaks_refused : {old new : D} (ending : Ending) → Changes nor old new (Checks g) → begin_refusal g (nor.bytes old) (nor.bytes new) ≡ Some ending → Speaks nor old new (moved_text g (nor.bytes old) (nor.bytes new) 0) (scrub_ending g (nor.bytes old) (nor.bytes new)) ending
+  speaks_refused : {old new : D} (ending : Ending) → Changes nor old new (Checks g) → begin_refusal g (nor.bytes old) (nor.bytes new) ≡ Some ending → Speaks nor old new (moved_text g (nor.bytes old) (nor.bytes new) 0 None) (scrub_ending g (nor.bytes old) (nor.bytes new)) ending
   speaks_refused ending changes is = rw is (inr (refl, said_nothing changes))
 
   -- a volume that wasn't checked, or has too few free blocks
   pub scrubs_stopped : {limit : ℕ} {old new : D} (ending : Ending) → Changes nor old new (Checks g) → (nor.tells old → StopsRun nor g old new ending) → ScrubsTo nor g limit old new ending
   scrubs_stopped {limit} {old} {new} ending changes stops = record {
     moved = 0;
-    cuts = silent_cuts new (moved_text g (nor.bytes old) (nor.bytes new) 0) (check_files changes);
+    last = None;
+    cuts = silent_cuts new (moved_text g (nor.bytes old) (nor.bytes new) 0 None) (check_files changes);
     speaks = λ tells. ⊎_elim
-        (λ fault. none_said_of (moved_text g (nor.bytes old) (nor.bytes new) 0) (scrub_ending g (nor.bytes old) (nor.bytes new)) ending changes fault.fault)
+        (λ fault. none_said_of (moved_text g (nor.bytes old) (nor.bytes new) 0 None) (scrub_ending g (nor.bytes old) (nor.bytes new)) ending changes fault.fault)
         (λ ends. speaks_refused ending changes (early_why ends).refusal)
         (stops tells);
     done = λ tells is. absurd (⊎_elim
@@ -131,8 +133,9 @@ module _ {D : Type 0} {nor : NorOf D} {g : Geometry} where
       let fault : nor.tells old → result ≡ BoardFault = λ tells. let left = leaves tells in stops.fault (changes.cuts.told tells) left.tidy left.reserve in
       record {
         moved = 0;
-        cuts = silent_cuts new (moved_text g (nor.bytes old) (nor.bytes new) 0) whole;
-        speaks = λ tells. none_said_of (moved_text g (nor.bytes old) (nor.bytes new) 0) (scrub_ending g (nor.bytes old) (nor.bytes new)) result whole (fault tells);
+        last = None;
+        cuts = silent_cuts new (moved_text g (nor.bytes old) (nor.bytes new) 0 None) whole;
+        speaks = λ tells. none_said_of (moved_text g (nor.bytes old) (nor.bytes new) 0 None) (scrub_ending g (nor.bytes old) (nor.bytes new)) result whole (fault tells);
         done = λ tells is. absurd (let bad : Done ≡ BoardFault = sym is ∙ fault tells in cc);
         table = λ tells. (whole.now tells).1;
         safe = λ tells. (whole.now tells).0;
@@ -146,17 +149,18 @@ module _ {D : Type 0} {nor : NorOf D} {g : Geometry} where
   line_said {limit} {old} {mid} {new} result changes leaves s =
       let was = nor.bytes old in
       let now = nor.bytes new in
-      let piece = scrub_text s.moved s.free in
+      let piece = scrub_text s.moved s.free s.last in
       let whole = after_steps changes leaves s.changes in
       let made = λ (tells : nor.tells old). let left = leaves tells in s.made (changes.cuts.told tells) left.tidy left.reserve in
       let reserve : nor.tells old → HasReserve g now = λ tells. subst (λ (l : List ℕ). HasReserve g l) (sym s.says.bytes) (made tells).0.reserve in
       let takes : nor.tells old → begin_refusal g was now ≡ None = λ tells. begins_on g was now (leaves tells).takes (reserve tells) in
-      let text : nor.tells old → piece ≡ moved_text g was now s.moved = λ tells.
-      ap (scrub_text s.moved) ((made tells).1 ∙ ap (free_blocks g) (sym s.says.bytes)) ∙ sym (ap (λ (o : Option Ending). unless_refused o (scrub_text s.moved (free_blocks g now))) (takes tells)) in
+      let text : nor.tells old → piece ≡ moved_text g was now s.moved s.last = λ tells.
+      ap (λ (n : ℕ). scrub_text s.moved n s.last) ((made tells).1 ∙ ap (free_blocks g) (sym s.says.bytes)) ∙ sym (ap (λ (o : Option Ending). unless_refused o (scrub_text s.moved (free_blocks g now) s.last)) (takes tells)) in
       let ending : nor.tells old → scrub_ending g was now ≡ Done = λ tells. ap (λ (o : Option Ending). unwrap_or o Done) (takes tells) in
       record {
         moved = s.moved;
-        cuts = andthen (silent_cuts new (moved_text g was now s.moved) whole) (widened s.cuts (λ image count here tells.
+        last = s.last;
+        cuts = andthen (silent_cuts new (moved_text g was now s.moved s.last) whole) (widened s.cuts (λ image count here tells.
             let is : image ≡ nor.bytes s.mid = here.all_bytes (whole.cuts.told tells) in
             let files : LeavesFiles g was image = subst (λ (l : List ℕ). LeavesFiles g was l) (sym is) (whole.now tells) in
             let before = ap length whole.said in
@@ -181,10 +185,10 @@ module _ {D : Type 0} {nor : NorOf D} {g : Geometry} where
             ))
             (λ said. inr (said.0 ∙ sym (ending tells), said.1 (whole.cuts.told tells) ∙ ap (λ (l : List ℕ). l ++ piece) whole.said ∙ ap (λ (l : List ℕ). nor.said old ++ l) (text tells)))
             s.ends;
-        done = λ tells is. record { checked = nor.bytes mid; check = leaves tells; scrubbed = subst (λ (l : List ℕ). Scrubbed g limit (nor.bytes mid) l s.moved) (sym s.says.bytes) (made tells).0 };
+        done = λ tells is. record { checked = nor.bytes mid; check = leaves tells; scrubbed = subst (λ (l : List ℕ). Scrubbed g limit (nor.bytes mid) l s.moved s.last) (sym s.says.bytes) (made tells).0 };
         table = λ tells. ap (table_of g) s.says.bytes ∙ (whole.now tells).1;
         safe = λ tells. subst (λ (l : List ℕ). IsSafe g was l) (sym s.says.bytes) (whole.now tells).0;
-        holds = λ tells. inr (subst (λ (l : List ℕ). HoldsImage g was l) (sym s.says.bytes) (holds_then g was (nor.bytes mid) (nor.bytes s.mid) (holds_check (changes.now tells)) (made tells).0.made.holds));
+        holds = λ tells. inr (subst (λ (l : List ℕ). HoldsImage g was l) (sym s.says.bytes) (holds_then g was (nor.bytes mid) (nor.bytes s.mid) (holds_check (changes.now tells)) (made tells).0.holds));
         mends = λ tells may. ⊎_elim (λ fault. inl fault) (λ said. inr (reserve tells, λ tight. omega (arith, tight, ap status_of said.0))) s.ends;
         kept = λ tells why is. absurd (not_both (leaves tells).takes is);
       }

@@ -1,5 +1,5 @@
 -- What a scrub leaves and says with its closing line.
-use Rattle.std.proofs.Common.{◌≡◌, ◌≢◌, ℕ, List, ◌++◌, length, refl, sym, ◌∙◌, ap, subst, arith, ⊎_elim, length-append}
+use Rattle.std.proofs.Common.{◌≡◌, ◌≢◌, ℕ, List, ◌++◌, length, refl, sym, ◌∙◌, ap, subst, arith, ⊎_elim, Option, length-append}
 use Rattle.geometry.specs.declared.geometry.Geometry.{Geometry}
 use Rattle.nor_core.specs.declared.state.NorState.{Ghosts as NorOf}
 use Rattle.nor_core.specs.Count.{Rose}
@@ -8,6 +8,7 @@ use Rattle.nor_core.proofs.Cuts.{andthen, widened}
 use Rattle.flash_view.specs.Same.{StaysBehind}
 use Rattle.image_model.specs.Tables.{table_of}
 use Rattle.call_model.specs.Safe.{IsSafe, HoldsImage}
+use Rattle.wear_scrub.specs.declared.scrubs.Scrub.{Scrub}
 use Rattle.tool_parts.specs.declared.ending.Ending.{Ending}
 use Rattle.tool_parts.specs.declared.ending.Ending.TheVariants.{Done, BoardFault}
 use Rattle.tool_parts.specs.Closing.{status_of, closing_line_of}
@@ -25,10 +26,10 @@ done_of _ is = absurd (omega (arith, is))
 
 module _ {D : Type 0} {nor : NorOf D} {g : Geometry} where
   -- the image that a cut is told by
-  cut_as : {old mid new : D} (moved : ℕ) {image : List ℕ} {count : ℕ} → nor.bytes new ≡ nor.bytes mid → ScrubCut nor g old mid (moved_text g (nor.bytes old) (nor.bytes mid) moved ++ closing_line_of (scrub_ending g (nor.bytes old) (nor.bytes mid))) image count →
-      ScrubCut nor g old new (moved_text g (nor.bytes old) (nor.bytes new) moved ++ closing_line_of (scrub_ending g (nor.bytes old) (nor.bytes new))) image count
-  cut_as {old} {mid} {new} moved {image} {count} same c =
-      let longest : List ℕ → ℕ = λ (l : List ℕ). length (moved_text g (nor.bytes old) l moved ++ closing_line_of (scrub_ending g (nor.bytes old) l)) in
+  cut_as : {old mid new : D} (moved : ℕ) (last : Option Scrub) {image : List ℕ} {count : ℕ} → nor.bytes new ≡ nor.bytes mid → ScrubCut nor g old mid (moved_text g (nor.bytes old) (nor.bytes mid) moved last ++ closing_line_of (scrub_ending g (nor.bytes old) (nor.bytes mid))) image count →
+      ScrubCut nor g old new (moved_text g (nor.bytes old) (nor.bytes new) moved last ++ closing_line_of (scrub_ending g (nor.bytes old) (nor.bytes new))) image count
+  cut_as {old} {mid} {new} moved last {image} {count} same c =
+      let longest : List ℕ → ℕ = λ (l : List ℕ). length (moved_text g (nor.bytes old) l moved last ++ closing_line_of (scrub_ending g (nor.bytes old) l)) in
       record { table = c.table; safe = c.safe; least = c.least; most = omega (arith, c.most, ap longest same); once_said = λ more. c.once_said more ∙ sym same }
 
 module _ {D : Type 0} {nor : NorOf D} {g : Geometry} where
@@ -53,7 +54,7 @@ module _ {D : Type 0} {nor : NorOf D} {g : Geometry} where
 
 module _ {D : Type 0} {nor : NorOf D} {g : Geometry} {limit : ℕ} where
   -- a scrub with status 0 came to its end
-  status_done : {old mid new : D} (result : Ending) (status : ℕ) → (s : ScrubsTo nor g limit old mid result) → OnlyCloses nor mid new result status → nor.tells old → status ≡ 0 → ScrubbedAfter g limit s.moved (nor.bytes old) (nor.bytes mid)
+  status_done : {old mid new : D} (result : Ending) (status : ℕ) → (s : ScrubsTo nor g limit old mid result) → OnlyCloses nor mid new result status → nor.tells old → status ≡ 0 → ScrubbedAfter g limit s.moved s.last (nor.bytes old) (nor.bytes mid)
   status_done {old} {mid} result status s closes tells done =
       let is : status_of result ≡ 0 = ⊎_elim (λ told. sym told ∙ done) (λ fault. absurd (omega (arith, done, fault.0))) closes.ends in
       s.done tells (done_of result is)
@@ -64,9 +65,10 @@ module _ {D : Type 0} {nor : NorOf D} {g : Geometry} {limit : ℕ} where
       let was = nor.bytes old in
       record {
         moved = s.moved;
-        told = λ tells. subst (λ (l : List ℕ). Concludes nor old new (moved_text g was l s.moved) (scrub_ending g was l) status) (sym closes.says.bytes)
-            (concludes (moved_text g was (nor.bytes mid) s.moved) (scrub_ending g was (nor.bytes mid)) result status (s.cuts.told tells) s.cuts.faults cause (s.speaks tells) closes);
-        done = λ tells zero_is. subst (λ (l : List ℕ). ScrubbedAfter g limit s.moved was l) (sym closes.says.bytes) (status_done result status s closes tells zero_is);
+        last = s.last;
+        told = λ tells. subst (λ (l : List ℕ). Concludes nor old new (moved_text g was l s.moved s.last) (scrub_ending g was l) status) (sym closes.says.bytes)
+            (concludes (moved_text g was (nor.bytes mid) s.moved s.last) (scrub_ending g was (nor.bytes mid)) result status (s.cuts.told tells) s.cuts.faults cause (s.speaks tells) closes);
+        done = λ tells zero_is. subst (λ (l : List ℕ). ScrubbedAfter g limit s.moved s.last was l) (sym closes.says.bytes) (status_done result status s closes tells zero_is);
         table = λ tells. ap (table_of g) closes.says.bytes ∙ s.table tells;
         safe = λ tells. subst (λ (l : List ℕ). IsSafe g was l) (sym closes.says.bytes) (s.safe tells);
         holds = λ tells fine. ⊎_elim
@@ -75,7 +77,7 @@ module _ {D : Type 0} {nor : NorOf D} {g : Geometry} {limit : ℕ} where
             (s.holds tells);
         mends = λ tells may. mended_closed g result (s.mends tells may) closes;
         kept = λ tells ending refused. none_closed (s.kept tells ending refused) closes;
-        cuts = widened (closed_cuts (moved_text g was (nor.bytes mid) s.moved) (scrub_ending g was (nor.bytes mid)) result status s.cuts s.speaks s.table s.safe closes) (λ image count here tells. cut_as s.moved closes.says.bytes (here tells));
+        cuts = widened (closed_cuts (moved_text g was (nor.bytes mid) s.moved s.last) (scrub_ending g was (nor.bytes mid)) result status s.cuts s.speaks s.table s.safe closes) (λ image count here tells. cut_as s.moved s.last closes.says.bytes (here tells));
         behind = behind_closed behind closes;
         reads = reads_said cache reads closes.says closes.cuts.faults;
       }

@@ -1,5 +1,5 @@
 -- Scrub steps on a volume, one after the other.
-use Rattle.std.proofs.Common.{◌≡◌, ℕ, ◌+◌, ◌≤◌, ◌⊎◌, List, [], Bool, true, false, refl, sym, ◌∙◌, ap, subst, arith, ⊎_elim, None, Result, Ok, Err}
+use Rattle.std.proofs.Common.{◌≡◌, ℕ, ◌+◌, ◌≤◌, ◌⊎◌, List, [], Bool, true, false, refl, sym, ◌∙◌, ap, subst, arith, ⊎_elim, None, Some, Result, Ok, Err}
 use Rattle.geometry.specs.declared.geometry.Geometry.{Geometry}
 use Rattle.nor_core.specs.declared.state.NorState.{Ghosts as NorOf}
 use Rattle.nor_core.specs.Device.{OnlyReads, Changes}
@@ -25,10 +25,11 @@ use Rattle.file_calls.specs.declared.space.Space.{Space}
 use Rattle.file_calls.specs.Spaces.{IsSpace}
 use Rattle.tool_parts.specs.declared.ending.Ending.{Ending}
 use Rattle.tool_parts.specs.declared.ending.Ending.TheVariants.{BoardFault}
+use Rattle.tool_core.specs.declared.scrubbing.Steps.{Steps}
 use Rattle.tool_core.specs.declared.scrubbing.Tally.{Tally}
 use Rattle.tool_core.specs.Filling.{unsettled_as}
 use Rattle.tool_parts.specs.Begins.{first_moment, closed_memory}
-use Rattle.tool_core.specs.Scrubbing.{has_moved, StepsMade, IsStepDone, Scrubbed, IsTally, KeepsFiles, Makes}
+use Rattle.tool_core.specs.Scrubbing.{has_moved, StepsMade, IsStepDone, AreSteps, IsTally, KeepsFiles, Makes}
 use Rattle.script_run.proofs.Beginning.{first_at}
 use Rattle.tool_core.proofs.ScrubSteps.{made_none, made_more, scrubbed_all, scrubbed_rest}
 
@@ -61,9 +62,9 @@ module _ {N : Type 0} {nor : NorOf N} where
       (left.0, one_among g slots was (table_of g image) left.1))
 
   -- what a step leaves
-  step_done : {limit : ℕ} {old new : Volume N nor} (slots : ℕ) (scrub : Scrub) (moved : Bool) → moved ≡ has_moved scrub → memory old ≡ closed_memory slots → takes_calls old ≡ true → Scrubs limit old new (Ok scrub) → nor.tells old.nor.now → IsTidy old.geometry (nor.bytes old.nor.now) →
-      IsStepDone old.geometry limit (nor.bytes old.nor.now) (nor.bytes new.nor.now) moved
-  step_done {limit} {old} {new} slots scrub moved is closed takes s tells tidy =
+  step_done : {limit : ℕ} {old new : Volume N nor} (slots : ℕ) (scrub : Scrub) → memory old ≡ closed_memory slots → takes_calls old ≡ true → Scrubs limit old new (Ok scrub) → nor.tells old.nor.now → IsTidy old.geometry (nor.bytes old.nor.now) →
+      IsStepDone old.geometry limit (nor.bytes old.nor.now) (nor.bytes new.nor.now) scrub
+  step_done {limit} {old} {new} slots scrub closed takes s tells tidy =
       let g = old.geometry in
       let was = nor.bytes old.nor.now in
       let now = nor.bytes new.nor.now in
@@ -75,21 +76,21 @@ module _ {N : Type 0} {nor : NorOf N} where
         tidy = at.tidy;
         table = at.table ∙ settled_first g slots was;
         holds = made.1;
-        step = record { scrub = scrub; is = is; done = subst (λ (l : List ℕ). ScrubDone g limit l now scrub) (from.first (ap (λ (w : Memory). w.run) closed)) from.step };
+        step = record { before = from.count; after = nor.device_writes new.nor.now; done = subst (λ (l : List ℕ). ScrubDone g limit from.count (nor.device_writes new.nor.now) l now scrub) (from.first (ap (λ (w : Memory). w.run) closed)).0 from.step };
       }
 
   -- a step
-  pub turn_ok : {limit : ℕ} {old new : Volume N nor} {result : Result Scrub FsErr} (slots : ℕ) (scrub : Scrub) (moved : Bool) → moved ≡ has_moved scrub → result ≡ Ok scrub → takes_calls old ≡ true → Scrubs limit old new result → memory old ≡ closed_memory slots → Makes nor old.geometry slots old.nor.now new.nor.now (memory new) (Ok moved) (IsStepDone old.geometry limit)
-  turn_ok {limit} {old} {new} slots scrub moved is done takes scrubs closed =
+  pub turn_ok : {limit : ℕ} {old new : Volume N nor} {result : Result Scrub FsErr} (slots : ℕ) (scrub : Scrub) → result ≡ Ok scrub → takes_calls old ≡ true → Scrubs limit old new result → memory old ≡ closed_memory slots → Makes nor old.geometry slots old.nor.now new.nor.now (memory new) (Ok scrub) (IsStepDone old.geometry limit)
+  turn_ok {limit} {old} {new} slots scrub done takes scrubs closed =
       let s : Scrubs limit old new (Ok scrub) = subst (λ (r : Result Scrub FsErr). Scrubs limit old new r) done scrubs in
       record {
         memory = closed_still old new slots closed s.slots (s.empty takes);
         changes = turn_changes slots closed s;
-        done = λ tells tidy reserve. step_done slots scrub moved is closed takes s tells tidy;
+        done = λ tells tidy reserve. step_done slots scrub closed takes s tells tidy;
       }
 
   -- one that failed
-  pub turn_err : {limit : ℕ} {old new : Volume N nor} {result : Result Scrub FsErr} (slots : ℕ) (why : FsErr) → result ≡ Err why → takes_calls old ≡ true → Scrubs limit old new result → memory old ≡ closed_memory slots → Makes {T = Bool} nor old.geometry slots old.nor.now new.nor.now (memory new) (Err (unsettled_as why)) (IsStepDone old.geometry limit)
+  pub turn_err : {limit : ℕ} {old new : Volume N nor} {result : Result Scrub FsErr} (slots : ℕ) (why : FsErr) → result ≡ Err why → takes_calls old ≡ true → Scrubs limit old new result → memory old ≡ closed_memory slots → Makes {T = Scrub} nor old.geometry slots old.nor.now new.nor.now (memory new) (Err (unsettled_as why)) (IsStepDone old.geometry limit)
   turn_err {limit} {old} {new} slots why failed takes scrubs closed =
       let s : Scrubs limit old new (Err why) = subst (λ (r : Result Scrub FsErr). Scrubs limit old new r) failed scrubs in
       record {
@@ -114,36 +115,36 @@ module _ {D : Type 0} {nor : NorOf D} {g : Geometry} {slots limit : ℕ} where
       (holds_safe g (nor.bytes old) (nor.bytes mid) image made.holds made.tidy left.0, left.1 ∙ made.table))
 
   -- a step more
-  pub makes_more : {old mid new : D} {w now : Memory} (n : ℕ) (h : Geometry) → h ≡ g → Makes nor g slots old mid w (Ok n) (λ was image n. StepsMade g limit n was image) → (w ≡ closed_memory slots → Makes nor h slots mid new now (Ok true) (IsStepDone h limit)) →
+  pub makes_more : {old mid new : D} {w now : Memory} (n : ℕ) (scrub : Scrub) (h : Geometry) → true ≡ has_moved scrub → h ≡ g → Makes nor g slots old mid w (Ok n) (λ was image n. StepsMade g limit n was image) → (w ≡ closed_memory slots → Makes nor h slots mid new now (Ok scrub) (IsStepDone h limit)) →
       Makes nor g slots old new now (Ok (n + 1)) (λ was image n. StepsMade g limit n was image)
-  makes_more {old} {mid} {new} {w} {now} n h same first turn =
-      let next : Makes nor g slots mid new now (Ok true) (IsStepDone g limit) = subst (λ (k : Geometry). Makes nor k slots mid new now (Ok true) (IsStepDone k limit)) same (turn first.memory) in
+  makes_more {old} {mid} {new} {w} {now} n scrub h is same first turn =
+      let next : Makes nor g slots mid new now (Ok scrub) (IsStepDone g limit) = subst (λ (k : Geometry). Makes nor k slots mid new now (Ok scrub) (IsStepDone k limit)) same (turn first.memory) in
       record {
         memory = next.memory;
         changes = makes_changes first next.changes;
         done = λ tells tidy reserve.
             let made = first.done tells tidy reserve in
-            made_more g limit n (nor.bytes old) (nor.bytes mid) (nor.bytes new) made (next.done (first.changes.cuts.told tells) made.tidy (made.holds.reserve reserve));
+            made_more g limit n (nor.bytes old) (nor.bytes mid) (nor.bytes new) scrub is made (next.done (first.changes.cuts.told tells) made.tidy (made.holds.reserve reserve));
       }
 
   -- one that moved none ends them
-  pub makes_rest : {old mid new : D} {w now : Memory} (n : ℕ) (h : Geometry) → h ≡ g → n ≤ g.blocks → Makes nor g slots old mid w (Ok n) (λ was image n. StepsMade g limit n was image) → (w ≡ closed_memory slots → Makes nor h slots mid new now (Ok false) (IsStepDone h limit)) →
-      Makes nor g slots old new now (Ok n) (Scrubbed g limit)
-  makes_rest {old} {mid} {new} {w} {now} n h same few first turn =
-      let next : Makes nor g slots mid new now (Ok false) (IsStepDone g limit) = subst (λ (k : Geometry). Makes nor k slots mid new now (Ok false) (IsStepDone k limit)) same (turn first.memory) in
+  pub makes_rest : {old mid new : D} {w now : Memory} (n : ℕ) (scrub : Scrub) (h : Geometry) → false ≡ has_moved scrub → h ≡ g → n ≤ g.blocks → Makes nor g slots old mid w (Ok n) (λ was image n. StepsMade g limit n was image) → (w ≡ closed_memory slots → Makes nor h slots mid new now (Ok scrub) (IsStepDone h limit)) →
+      Makes nor g slots old new now (Ok (record { moved = n; last = Some scrub })) (AreSteps g limit)
+  makes_rest {old} {mid} {new} {w} {now} n scrub h is same few first turn =
+      let next : Makes nor g slots mid new now (Ok scrub) (IsStepDone g limit) = subst (λ (k : Geometry). Makes nor k slots mid new now (Ok scrub) (IsStepDone k limit)) same (turn first.memory) in
       record {
         memory = next.memory;
         changes = makes_changes first next.changes;
         done = λ tells tidy reserve.
             let made = first.done tells tidy reserve in
-            scrubbed_rest g limit n (nor.bytes old) (nor.bytes mid) (nor.bytes new) few reserve made (next.done (first.changes.cuts.told tells) made.tidy (made.holds.reserve reserve));
+            scrubbed_rest g limit n (nor.bytes old) (nor.bytes mid) (nor.bytes new) scrub is few reserve made (next.done (first.changes.cuts.told tells) made.tidy (made.holds.reserve reserve));
       }
 
   -- one that failed too
-  pub makes_fails : {old mid new : D} {w now : Memory} (n : ℕ) (ending : Ending) (h : Geometry) → h ≡ g → Makes nor g slots old mid w (Ok n) (λ was image n. StepsMade g limit n was image) → (w ≡ closed_memory slots → Makes {T = Bool} nor h slots mid new now (Err ending) (IsStepDone h limit)) →
-      Makes {T = ℕ} nor g slots old new now (Err ending) (Scrubbed g limit)
+  pub makes_fails : {old mid new : D} {w now : Memory} (n : ℕ) (ending : Ending) (h : Geometry) → h ≡ g → Makes nor g slots old mid w (Ok n) (λ was image n. StepsMade g limit n was image) → (w ≡ closed_memory slots → Makes {T = Scrub} nor h slots mid new now (Err ending) (IsStepDone h limit)) →
+      Makes {T = Steps} nor g slots old new now (Err ending) (AreSteps g limit)
   makes_fails {old} {mid} {new} {w} {now} n ending h same first turn =
-      let next : Makes {T = Bool} nor g slots mid new now (Err ending) (IsStepDone g limit) = subst (λ (k : Geometry). Makes {T = Bool} nor k slots mid new now (Err ending) (IsStepDone k limit)) same (turn first.memory) in
+      let next : Makes {T = Scrub} nor g slots mid new now (Err ending) (IsStepDone g limit) = subst (λ (k : Geometry). Makes {T = Scrub} nor k slots mid new now (Err ending) (IsStepDone k limit)) same (turn first.memory) in
       record {
         memory = tt;
         changes = makes_changes first next.changes;
@@ -153,7 +154,7 @@ module _ {D : Type 0} {nor : NorOf D} {g : Geometry} {slots limit : ℕ} where
       }
 
   -- as many as there are blocks end them
-  pub makes_all : {old new : D} {now : Memory} (n : ℕ) → n ≡ g.blocks → Makes nor g slots old new now (Ok n) (λ was image n. StepsMade g limit n was image) → Makes nor g slots old new now (Ok n) (Scrubbed g limit)
+  pub makes_all : {old new : D} {now : Memory} (n : ℕ) → n ≡ g.blocks → Makes nor g slots old new now (Ok n) (λ was image n. StepsMade g limit n was image) → Makes nor g slots old new now (Ok (record { moved = n; last = None })) (AreSteps g limit)
   makes_all {old} {new} n all made = record {
     memory = made.memory;
     changes = made.changes;
@@ -163,22 +164,22 @@ module _ {D : Type 0} {nor : NorOf D} {g : Geometry} {slots limit : ℕ} where
   -- ---- the free blocks are counted
 
   -- a failed step
-  pub makes_uncounted : {old new : D} {now : Memory} (ending : Ending) → Makes {T = ℕ} nor g slots old new now (Err ending) (Scrubbed g limit) → Makes {T = Tally} nor g slots old new now (Err ending) (IsTally g limit)
+  pub makes_uncounted : {old new : D} {now : Memory} (ending : Ending) → Makes {T = Steps} nor g slots old new now (Err ending) (AreSteps g limit) → Makes {T = Tally} nor g slots old new now (Err ending) (IsTally g limit)
   makes_uncounted ending made = record { memory = tt; changes = made.changes; done = made.done }
 
   -- a count that failed
-  pub makes_no_count : {old mid new : D} {w now : Memory} {n : ℕ} (ending : Ending) → Makes nor g slots old mid w (Ok n) (Scrubbed g limit) → OnlyReads nor mid new → ending ≡ BoardFault → Makes {T = Tally} nor g slots old new now (Err ending) (IsTally g limit)
+  pub makes_no_count : {old mid new : D} {w now : Memory} {steps : Steps} (ending : Ending) → Makes nor g slots old mid w (Ok steps) (AreSteps g limit) → OnlyReads nor mid new → ending ≡ BoardFault → Makes {T = Tally} nor g slots old new now (Err ending) (IsTally g limit)
   makes_no_count ending made reads fault = record { memory = tt; changes = read_after made.changes reads; done = λ tells tidy reserve. fault }
 
   -- a count
-  pub makes_tally : {old mid new : D} {w now : Memory} (n free : ℕ) → Makes nor g slots old mid w (Ok n) (Scrubbed g limit) → OnlyReads nor mid new → (w ≡ closed_memory slots → now ≡ closed_memory slots) → (w ≡ closed_memory slots → nor.tells mid → IsTidy g (nor.bytes mid) → free ≡ free_blocks g (nor.bytes mid)) →
-      Makes nor g slots old new now (Ok (record { moved = n; free = free })) (IsTally g limit)
-  makes_tally {old} {mid} {new} n free made reads still counted = record {
+  pub makes_tally : {old mid new : D} {w now : Memory} (steps : Steps) (free : ℕ) → Makes nor g slots old mid w (Ok steps) (AreSteps g limit) → OnlyReads nor mid new → (w ≡ closed_memory slots → now ≡ closed_memory slots) → (w ≡ closed_memory slots → nor.tells mid → IsTidy g (nor.bytes mid) → free ≡ free_blocks g (nor.bytes mid)) →
+      Makes nor g slots old new now (Ok (record { moved = steps.moved; last = steps.last; free = free })) (IsTally g limit)
+  makes_tally {old} {mid} {new} steps free made reads still counted = record {
     memory = still made.memory;
     changes = read_after made.changes reads;
     done = λ tells tidy reserve.
         let done = made.done tells tidy reserve in
-        subst (λ (l : List ℕ). IsTally g limit (nor.bytes old) l (record { moved = n; free = free })) (sym reads.bytes) (record { scrubbed = done; free = counted made.memory (made.changes.cuts.told tells) done.made.tidy });
+        subst (λ (l : List ℕ). IsTally g limit (nor.bytes old) l (record { moved = steps.moved; last = steps.last; free = free })) (sym reads.bytes) (record { scrubbed = done; free = counted made.memory (made.changes.cuts.told tells) done.tidy });
   }
 
 module _ {N : Type 0} {nor : NorOf N} where

@@ -11,7 +11,7 @@ ghost use Rattle.tool_parts.specs.Later.{IsLater, IsLaterStatus};
 ghost use Rattle.tool_parts.specs.Lent.{lengths_of};
 ghost use Rattle.tool_parts.specs.Begins.{closed_memory};
 ghost use Rattle.tool_parts.specs.Reads.{ReadsOnce};
-ghost use Rattle.tool_core.specs.Scrubbing.{Makes, IsStepDone, Scrubbed, IsTally, ScrubEnds, ScrubsTo, DoesScrub, scrub_text, has_moved};
+ghost use Rattle.tool_core.specs.Scrubbing.{Makes, IsStepDone, AreSteps, IsTally, ScrubEnds, ScrubsTo, DoesScrub, scrub_text, why_text, has_moved};
 
 use crate::finishing::unsettled;
 use geometry::Geometry;
@@ -20,21 +20,43 @@ use tool_parts::{Buffers, Closing, Ending, begin, conclude, put, put_count};
 use vol_mount::Lent;
 use volume::{Scrub, Volume};
 
-// What a scrub did: how many steps moved a block, and how many blocks are free then.
+// The steps of a scrub: how many moved a block, and the one after them that moved none, if there was one.
+#[derive(Clone, Copy)]
+struct Steps {
+    moved: u32,
+    last: Option<Scrub>,
+}
+
+// The same, and how many blocks are free then.
 #[derive(Clone, Copy)]
 struct Tally {
     moved: u32,
+    last: Option<Scrub>,
     free: u32,
 }
 
-// The line of that.
+// Why the last step moved no block.
+fn why_text(last: Option<Scrub>) -> &'static [u8]
+    ensures { result.now ≡ why_text last }
+{
+    match last {
+        Some(Scrub::Rested) => b"level\n",
+        Some(Scrub::NoRoom { .. }) => b"no room\n",
+        _ => b"",
+    }
+}
+
+// The line of what was done, and where no block was moved why not.
 fn tally_line(tally: Tally) -> Closing
-    ensures { result.items ≡ scrub_text tally.moved tally.free }
+    ensures { result.items ≡ scrub_text tally.moved tally.free tally.last }
 {
     let mut line = Closing::new();
     put_count(&mut line, b"moved ", u64::from(tally.moved));
     put_count(&mut line, b" free ", u64::from(tally.free));
     put(&mut line, b"\n");
+    if tally.moved == 0 {
+        put(&mut line, why_text(tally.last));
+    }
     line
 }
 
@@ -45,8 +67,8 @@ fn has_moved(scrub: Scrub) -> bool
     matches!(scrub, Scrub::Moved { .. })
 }
 
-// A step of a scrub: whether it moved a block.
-fn scrub_turn<B: Board>(volume: &mut Volume<'_, B>, limit: u16) -> Result<bool, Ending>
+// A step of a scrub.
+fn scrub_turn<B: Board>(volume: &mut Volume<'_, B>, limit: u16) -> Result<Scrub, Ending>
     requires limit { (1 ≤ limit) × (limit ≤ 32767) }
     requires takes { takes_calls volume.old ≡ true }
     ensures later { IfErr result IsLater }
@@ -59,14 +81,14 @@ fn scrub_turn<B: Board>(volume: &mut Volume<'_, B>, limit: u16) -> Result<bool, 
         Makes B.NorState volume.old.geometry slots volume.old.nor.now volume.new.nor.now (memory volume.new) result (IsStepDone volume.old.geometry limit) }
 {
     match volume.scrub(limit) {
-        Ok(scrub) => Ok(has_moved(scrub)),
+        Ok(scrub) => Ok(scrub),
         Err(why) => Err(unsettled(why)),
     }
 }
 
-// Makes steps until one moves no block, or as many as there are blocks: how many moved one.
+// Makes steps until one moves no block, or as many as there are blocks.
 #[tactic(auto, using(volume::proofs::Staying::same_then))]
-fn scrub_all<B: Board>(volume: &mut Volume<'_, B>, limit: u16) -> Result<u32, Ending>
+fn scrub_all<B: Board>(volume: &mut Volume<'_, B>, limit: u16) -> Result<Steps, Ending>
     requires limit { (1 ≤ limit) × (limit ≤ 32767) }
     requires takes { takes_calls volume.old ≡ true }
     ensures later { IfErr result IsLater }
@@ -76,18 +98,22 @@ fn scrub_all<B: Board>(volume: &mut Volume<'_, B>, limit: u16) -> Result<u32, En
     ensures taken { OnOk result (takes_calls volume.new ≡ true) }
     ensures same { IsSameVolume volume.old volume.new }
     ensures makes { (slots : ℕ) → memory volume.old ≡ closed_memory slots →
-        Makes B.NorState volume.old.geometry slots volume.old.nor.now volume.new.nor.now (memory volume.new) result (Scrubbed volume.old.geometry limit) }
+        Makes B.NorState volume.old.geometry slots volume.old.nor.now volume.new.nor.now (memory volume.new) result (AreSteps volume.old.geometry limit) }
 {
     let blocks = volume.geometry.blocks();
     let mut moved = 0;
     'steps: while moved < blocks {
-        if scrub_turn(volume, limit)? {
+        let scrub = scrub_turn(volume, limit)?;
+        if has_moved(scrub) {
             moved += 1;
         } else {
-            return Ok(moved);
+            return Ok(Steps {
+                moved,
+                last: Some(scrub),
+            });
         }
     }
-    Ok(moved)
+    Ok(Steps { moved, last: None })
 }
 
 // Makes the steps, and counts the free blocks then.
@@ -103,10 +129,11 @@ fn scrub_and_count<B: Board>(volume: &mut Volume<'_, B>, limit: u16) -> Result<T
     ensures makes { (slots : ℕ) → memory volume.old ≡ closed_memory slots →
         Makes B.NorState volume.old.geometry slots volume.old.nor.now volume.new.nor.now (memory volume.new) result (IsTally volume.old.geometry limit) }
 {
-    let moved = scrub_all(volume, limit)?;
+    let steps = scrub_all(volume, limit)?;
     match volume.space() {
         Ok(space) => Ok(Tally {
-            moved,
+            moved: steps.moved,
+            last: steps.last,
             free: space.free_blocks,
         }),
         Err(why) => Err(unsettled(why)),
@@ -183,7 +210,7 @@ fn scrub_board<'b, B: Board>(
 }
 
 /// Mounts and checks the volume of a board in the lent memory, makes scrub steps until one moves no block or as many as there are
-/// blocks were made, and says how many moved one and how many blocks are free.
+/// blocks were made, and says how many moved one and how many blocks are free, and if none was moved why not.
 pub(crate) fn scrub_on<B: Board>(
     g: Geometry,
     limit: u16,

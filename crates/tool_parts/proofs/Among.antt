@@ -6,7 +6,7 @@ use Rattle.nor_core.proofs.Cuts.{widened, started}
 use Rattle.vol_mount.specs.declared.lent.MountErr.{MountErr}
 use Rattle.vol_mount.specs.declared.lent.MountErr.TheVariants.{NotAFs as MountNotAFs, DeviceFault as MountFault}
 use Rattle.vol_check.specs.declared.report.CheckErr.{CheckErr}
-use Rattle.vol_check.specs.declared.report.CheckErr.TheVariants.{Wrong as CheckWrong, Mixed as CheckMixed, DeviceFault as CheckFault, Damaged as CheckDamaged}
+use Rattle.vol_check.specs.declared.report.CheckErr.TheVariants.{NotMounted as CheckOut, Wrong as CheckWrong, Mixed as CheckMixed, DeviceFault as CheckFault, Damaged as CheckDamaged}
 use Rattle.vol_check.specs.Checks.{IsWritable}
 use Rattle.volume.specs.Checking.{IsApart}
 use Rattle.tool_parts.specs.declared.ending.Ending.{Ending}
@@ -22,6 +22,7 @@ mount_among MountFault = tt {0}
 
 -- one that isn't checked, though it may be written
 pub check_among : (why : CheckErr) → IsWritable why → IsApart why → MayEndCheck (check_ends why)
+check_among CheckOut writable apart = absurd writable
 check_among (CheckWrong why) writable apart = absurd writable
 check_among (CheckMixed blocks) writable apart = tt {0}
 check_among CheckFault writable apart = tt {0}

@@ -14,7 +14,7 @@ use Rattle.vol_mount.specs.declared.lent.MountErr.{MountErr}
 use Rattle.vol_mount.specs.declared.lent.MountErr.TheVariants.{NotAFs as MountNotAFs, DeviceFault as MountFault}
 use Rattle.vol_mount.specs.Mounts.{CountsSpoiled}
 use Rattle.vol_check.specs.declared.report.CheckErr.{CheckErr}
-use Rattle.vol_check.specs.declared.report.CheckErr.TheVariants.{Wrong as CheckWrong, Mixed as CheckMixed, DeviceFault as CheckFault, Damaged as CheckDamaged}
+use Rattle.vol_check.specs.declared.report.CheckErr.TheVariants.{NotMounted as CheckOut, Wrong as CheckWrong, Mixed as CheckMixed, DeviceFault as CheckFault, Damaged as CheckDamaged}
 use Rattle.vol_check.specs.declared.report.Report.{Report}
 use Rattle.vol_check.specs.Checks.{IsWritable, IsRefusal, CountsMixed}
 use Rattle.volume.specs.Checking.{CheckCut, CheckDone, IsUndamaged}
@@ -77,6 +77,7 @@ module _ {D : Type 0} {nor : NorOf D} {g : Geometry} where
         let over : fits_over h (nor.bytes mid) ≡ false = ap (λ (k : Geometry). fits_over k (nor.bytes mid)) same ∙ ap (fits_over g) reads.bytes ∙ over_of g (nor.bytes old) why few is in
         reads_then reads (spared over);
   })
+  check_stops CheckOut h same writable reads few refused spared counts whole = absurd writable
   check_stops (CheckWrong why) h same writable reads few refused spared counts whole = absurd writable
   check_stops (CheckDamaged differ) h same writable reads few refused spared counts whole = absurd whole
 

@@ -11,7 +11,7 @@ use Rattle.call_model.specs.Safe.{ComesBack, IsSafe}
 use Rattle.vol_mount.specs.declared.lent.MountErr.{MountErr}
 use Rattle.vol_mount.specs.declared.lent.MountErr.TheVariants.{NotAFs as MountNotAFs, DeviceFault as MountFault}
 use Rattle.vol_check.specs.declared.report.CheckErr.{CheckErr}
-use Rattle.vol_check.specs.declared.report.CheckErr.TheVariants.{Wrong as CheckWrong, Mixed as CheckMixed, DeviceFault as CheckFault, Damaged as CheckDamaged}
+use Rattle.vol_check.specs.declared.report.CheckErr.TheVariants.{NotMounted as CheckOut, Wrong as CheckWrong, Mixed as CheckMixed, DeviceFault as CheckFault, Damaged as CheckDamaged}
 use Rattle.vol_check.specs.declared.report.Report.{Report}
 use Rattle.volume.specs.Checking.{CheckDone}
 use Rattle.tool_parts.specs.declared.ending.Ending.{Ending}
@@ -63,6 +63,7 @@ mount_ends MountFault = BoardFault
 
 -- how a command ends that doesn't check its volume
 abbrev pub check_ends : CheckErr → Ending
+check_ends CheckOut = BoardFault
 check_ends (CheckWrong why) = WrongGeometry why
 check_ends (CheckMixed blocks) = Mixed blocks
 check_ends CheckFault = BoardFault

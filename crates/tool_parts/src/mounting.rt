@@ -40,6 +40,7 @@ pub fn check_ending(why: CheckErr) -> Ending
     ensures no_script { result ≢ Ending.SourceFault }
 {
     match why {
+        CheckErr::NotMounted => Ending::BoardFault,
         CheckErr::Wrong(why) => Ending::Geometry(why),
         CheckErr::Mixed { blocks } => Ending::Mixed(blocks),
         CheckErr::DeviceFault => Ending::BoardFault,

@@ -17,6 +17,7 @@ use Rattle.room_laws.proofs.Sorted.{neat_tells_free}
 use Rattle.room_laws.proofs.Staying.{stripped_free_stays}
 use Rattle.vol_check.specs.declared.checking.Culled.{Culled}
 use Rattle.vol_check.specs.declared.report.Report.{Report}
+use Rattle.vol_check.specs.Owned.{OwnIf}
 use Rattle.vol_check.specs.Stage.{IsClean, CleansEntries}
 use Rattle.vol_check.specs.Culls.{IsSettled, IsServed, Passes, PassesDoubled, PassesDamaged, PassesRest, CullsPages}
 use Rattle.vol_check.specs.MadeFresh.{MadeFresh}
@@ -74,8 +75,8 @@ pub record Readies (g : Geometry) (erased : Bool) (dead : ℕ) (was now : List �
   pub made : MadeFresh g erased was image
   pub cleans : CleansEntries g dead image now
 
-abbrev pub readying : Work (Bool × ℕ)
-readying = record { needs = λ g was. Unit {0}; done = λ g was now x. Readies g x.0 x.1 was now; idle = λ g was. IsTidy g was }
+abbrev pub readying : (own : Bool) → Work (Bool × ℕ)
+readying own = record { needs = λ g was. OwnIf own g was; done = λ g was now x. Readies g x.0 x.1 was now; idle = λ g was. IsTidy g was }
 
 -- Then the lookup pages tell which entries are free.
 pub ready_tells : (g : Geometry) (a c : List ℕ) (erased : Bool) (dead : ℕ) → Readies g erased dead a c → TellsFree g c
@@ -93,8 +94,8 @@ pub record CullsAll (g : Geometry) (erased : Bool) (dead : ℕ) (culled : Culled
   pub ready : Readies g erased dead was image
   pub passes : CullsPages g culled.pages culled.damaged image now
 
-abbrev pub culling_all : Work (Bool × ℕ × Culled)
-culling_all = record { needs = λ g was. Unit {0}; done = λ g was now x. CullsAll g x.0 x.1 x.2 was now; idle = λ g was. IsTidy g was }
+abbrev pub culling_all : (own : Bool) → Work (Bool × ℕ × Culled)
+culling_all own = record { needs = λ g was. OwnIf own g was; done = λ g was now x. CullsAll g x.0 x.1 x.2 was now; idle = λ g was. IsTidy g was }
 
 -- kills after a block was made fresh
 stripped_after : (g : Geometry) (a b d : List ℕ) (erased : Bool) → MadeFresh g erased a b → OnlyKills g b d → IsNeat g d → table_of g d ≡ table_of g a → IsStripped g a d

@@ -5,7 +5,7 @@ use Rattle.geometry.specs.declared.geometry.Geometry.{Geometry}
 use Rattle.geometry.specs.Numbers.{per_block}
 use Rattle.page_layout.specs.declared.header.PageHeader.{PageHeader}
 use Rattle.page_layout.specs.Layout.{header_at, bits_of, is_finished as is_finished_head}
-use Rattle.image_model.specs.Within.{sizes}
+use Rattle.image_model.specs.Within.{sizes, block_number, page_number}
 use Rattle.image_model.specs.Places.{page_of, block_of, has_magic, entry_of, is_entry_page}
 use Rattle.image_model.specs.Live.{live_at, is_live}
 use Rattle.image_model.specs.Killed.{is_used, is_dead_entry}
@@ -14,20 +14,16 @@ use Rattle.image_laws.proofs.Placing.{page_byte}
 use Rattle.flash_view.proofs.Heads.{entry_page_told}
 use Rattle.flash_view.proofs.Parts.{finished_is}
 use Rattle.vol_check.specs.Stage.{is_taken_entry}
+use Rattle.vol_check.specs.Works.{MayClean}
 
 -- a lookup page has no entry
 pub lookup_is_not_dead : (g : Geometry) (a : List ℕ) (p : ℕ) → is_entry_page g p ≡ false → false ≡ is_dead_entry g a p
 unfolding is_used
 lookup_is_not_dead g a p e = rw e refl
 
--- entries of a block without its magic are not in use
-pub spoiled_is_not_dead : (g : Geometry) (a : List ℕ) (p : ℕ) → has_magic g a (block_of g p) ≡ false → false ≡ is_dead_entry g a p
-unfolding is_used per_block
-spoiled_is_not_dead g a p e = rw (e, and_false (is_entry_page g p)) refl
-  where
-    and_false : (x : Bool) → (x && false) ≡ false
-    and_false true = refl
-    and_false false = refl
+-- each block has its magic, that of a page too
+pub page_magic : (own : Bool) (g : Geometry) (a : List ℕ) (p : ℕ) → MayClean own g a → IsEntryPage g p → has_magic g a (block_of g p) ≡ true
+page_magic own g a p may place = may.magics (block_of g p) (block_number g p (page_number g p (entry_page_told g p place)))
 
 none_if : (page : List ℕ) (live : Bool) → is_none (if live then Some page else None) ≡ not live
 none_if page true = refl
@@ -57,3 +53,8 @@ pub dead_by : (g : Geometry) (a : List ℕ) (p : ℕ) (taken alive : Bool) → I
     not alive ≡ is_dead_entry g a p
 unfolding per_block
 dead_by g a p taken alive place magic told used lives = ap not (lives magic) ∙ subst (λ (x : Bool). (x && not (is_live g a p)) ≡ is_dead_entry g a p) (sym told ∙ used) (dead_told g a p place magic)
+
+-- and one that isn't in use is not
+pub untaken_is_not_dead : (g : Geometry) (a : List ℕ) (p : ℕ) (taken : Bool) → IsEntryPage g p → has_magic g a (block_of g p) ≡ true → taken ≡ is_taken_entry g a p → taken ≡ false → taken ≡ is_dead_entry g a p
+unfolding per_block
+untaken_is_not_dead g a p taken place magic told none = none ∙ subst (λ (x : Bool). (x && not (is_live g a p)) ≡ is_dead_entry g a p) (sym told ∙ none) (dead_told g a p place magic)

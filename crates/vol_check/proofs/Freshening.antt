@@ -40,6 +40,7 @@ use Rattle.flash_view.proofs.Stepped.{acted, after_look}
 use Rattle.vol_check.specs.MadeFresh.{HasAllMagics, count_after, MadeFresh}
 use Rattle.vol_check.specs.Works.{Work, StageCut, step_of, Worked, making_fresh}
 use Rattle.vol_check.proofs.Working.{Goes}
+use Rattle.vol_check.proofs.Owning.{own_fresh}
 
 -- ---- the first block that lacks its magic
 
@@ -153,6 +154,7 @@ module _ (g : Geometry) (a : List ℕ) (c : ℕ) (is : IsImage g a) (h : HasMagi
           (λ (there : d ≡ c → ⊥). let bad : true ≡ false = sym (others d below there) ∙ none in absurd (cc))
           (cases_eq d c);
       counts = fresh_counts;
+      own = own_fresh g a b c fresh.outside fresh.free;
     }
 
   -- making it fresh
@@ -175,7 +177,7 @@ pub made_none : (g : Geometry) (a : List ℕ) → HasAllMagics g a → MadeFresh
 unfolding spoiled_blocks
 made_none g a all =
     let count = filter-none_in (λ (d : ℕ). not (has_magic g a d)) 0 g.blocks (λ d from to. rw (all d (omega arith)) refl) in
-    record { erased_is = rw count refl; magics = all; live = λ p. refl; killed = refl; free = λ p page magic. refl; fresh = λ d below none. let bad : true ≡ false = sym (all d below) ∙ none in absurd (cc); counts = λ d below. rw (all d below) refl }
+    record { erased_is = rw count refl; magics = all; live = λ p. refl; killed = refl; free = λ p page magic. refl; fresh = λ d below none. let bad : true ≡ false = sym (all d below) ∙ none in absurd (cc); counts = λ d below. rw (all d below) refl; own = λ own. own }
 
 -- ---- as works of the check
 

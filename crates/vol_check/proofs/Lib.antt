@@ -1,3 +1,4 @@
+pub mod Owning
 pub mod Working
 pub mod Staged
 pub mod Tidied

@@ -14,6 +14,7 @@ use Rattle.room_laws.specs.Staged.{OnlyKills}
 use Rattle.vol_check.specs.Stage.{Kills}
 use Rattle.vol_check.specs.Culls.{Culls, Passes}
 use Rattle.vol_check.specs.Works.{StageCut}
+use Rattle.vol_check.proofs.Owning.{own_killed}
 
 -- ---- at each cut
 
@@ -29,7 +30,7 @@ stage_on g a b c x y = record {
 -- ---- kills alone
 
 pub kills_none : (g : Geometry) (a : List ℕ) → Kills g a a
-kills_none g a = record { pages = record { magic = λ block. refl; live = λ p. inl refl; free = λ p page. refl }; counts = λ block low. refl }
+kills_none g a = record { pages = record { magic = λ block. refl; live = λ p. inl refl; free = λ p page. refl }; counts = λ block low. refl; own = λ own. own }
 
 pages_then : (g : Geometry) (a b c : List ℕ) → OnlyKills g a b → OnlyKills g b c → OnlyKills g a c
 pages_then g a b c x y = record {
@@ -42,7 +43,7 @@ pages_then g a b c x y = record {
 }
 
 pub kills_then : (g : Geometry) (a b c : List ℕ) → Kills g a b → Kills g b c → Kills g a c
-kills_then g a b c x y = record { pages = pages_then g a b c x.pages y.pages; counts = λ block low. y.counts block low ∙ x.counts block low }
+kills_then g a b c x y = record { pages = pages_then g a b c x.pages y.pages; counts = λ block low. y.counts block low ∙ x.counts block low; own = λ own. y.own (x.own own) }
 
 -- an entry that was in use is zero, and the rest is as it was
 pub kills_one : (g : Geometry) (a c : List ℕ) (p : ℕ) → Agree g a c p → is_free_entry g a p ≡ false → entry_of g c p ≡ 0 →
@@ -57,6 +58,7 @@ kills_one g a c p agree used zero live = record {
         (cases_eq q p);
   };
   counts = agree.counts;
+  own = own_killed g a c p agree zero;
 }
 
 -- ---- turn by turn

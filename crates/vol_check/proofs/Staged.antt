@@ -34,7 +34,7 @@ use Rattle.page_put.specs.LivePages.{Stays, Cleared}
 use Rattle.page_put.proofs.Clearing.{left_half, clears_deleted}
 use Rattle.page_put.proofs.Killed.{flags_left, clears_dead}
 use Rattle.vol_check.specs.Stage.{Kills, CleansEntry, CleansEntries, IsClean}
-use Rattle.vol_check.specs.Works.{Work, StageCut, step_of, Worked, cleaning_entry}
+use Rattle.vol_check.specs.Works.{Work, StageCut, step_of, Worked, MayClean, cleaning_entry}
 use Rattle.vol_check.proofs.Working.{Goes, On}
 use Rattle.vol_check.proofs.Passing.{kills_none, kills_then, kills_one}
 
@@ -116,8 +116,8 @@ module _ (g : Geometry) (a : List ℕ) (p : ℕ) (is : IsImage g a) (h : HasMagi
             };
       }
 
-pub must_be_killed : (g : Geometry) (a : List ℕ) (p : ℕ) → is_dead_entry g a p ≡ true → Goes g a a (killing_entry p) (cleaning_entry p)
-must_be_killed g a p dead = record { needs = dead; idle = λ quiet. let bad : true ≡ false = sym dead ∙ quiet in absurd (cc) }
+pub must_be_killed : (own : Bool) (g : Geometry) (a : List ℕ) (p : ℕ) → is_dead_entry g a p ≡ true → Goes g a a (killing_entry p) (cleaning_entry own p)
+must_be_killed own g a p dead = record { needs = dead; idle = λ quiet. let bad : true ≡ false = sym dead ∙ quiet in absurd (cc) }
 
 -- a kill after a look that told the flags to be a byte
 pub kills_entry : {N : Type 0} {nor : NorOf N} {old mid new : View N nor} {r : Result (Unit {0}) Failed} {p : ℕ} → OnlyLooks old mid → IsSameView mid new → new.wrote ≡ true → OnErr r (Rose (nor.faults mid.nor.now) (nor.faults new.nor.now)) →
@@ -135,13 +135,17 @@ cleans_nothing g a p is h quiet = record { turned = unturned g a p is h quiet; k
 
 -- ---- entry by entry
 
+-- after kills the next entry may be killed
+pub may_clean_on : (own : Bool) (g : Geometry) (a b : List ℕ) → MayClean own g a → Kills g a b → MayClean own g b
+may_clean_on own g a b may kills = record { magics = λ block low. kills.pages.magic block ∙ may.magics block low; owned = λ is. kills.own (may.owned is) }
+
 -- p entries on, with n of them killed
 pub record Cleaning (g : Geometry) (first now : List ℕ) (p n : ℕ) : Type 0 where
   pub stage : Stage g first now p n
   pub kills : Kills g first now
 
-abbrev pub cleaning_to : ℕ → Work ℕ
-cleaning_to p = record { needs = λ g was. Unit {0}; done = λ g was now n. Cleaning g was now p n; idle = λ g was. IsClean g was }
+abbrev pub cleaning_to : (own : Bool) → ℕ → Work ℕ
+cleaning_to own p = record { needs = MayClean own; done = λ g was now n. Cleaning g was now p n; idle = λ g was. IsClean g was }
 
 pub cleaning_start : (g : Geometry) (a : List ℕ) → IsImage g a → HasMagics g a → Cleaning g a a 0 0
 cleaning_start g a is h = record { stage = stage_start g a is h; kills = kills_none g a }

@@ -11,7 +11,7 @@ use Rattle.room_laws.specs.Staged.{IsStripped}
 use Rattle.flash_view.specs.declared.kinds.StepErr.{StepErr}
 use Rattle.flash_view.specs.declared.kinds.StepErr.TheVariants.{DeviceFault as StepFault, Damaged as StepDamaged}
 use Rattle.vol_check.specs.declared.report.CheckErr.{CheckErr}
-use Rattle.vol_check.specs.declared.report.CheckErr.TheVariants.{Wrong, Mixed, DeviceFault, Damaged}
+use Rattle.vol_check.specs.declared.report.CheckErr.TheVariants.{NotMounted, Wrong, Mixed, DeviceFault, Damaged}
 use Rattle.vol_check.specs.declared.report.Report.{Report}
 use Rattle.vol_check.specs.MadeFresh.{count_after}
 
@@ -20,8 +20,9 @@ abbrev pub as_check_err : StepErr → CheckErr
 as_check_err StepFault = DeviceFault
 as_check_err (StepDamaged d) = Damaged d
 
--- a refusal of a volume whose numbers allow writing
+-- a refusal of a mounted volume whose numbers allow writing
 abbrev pub IsWritable : CheckErr → Type 0
+IsWritable NotMounted = ⊥
 IsWritable (Wrong why) = ⊥
 IsWritable (Mixed blocks) = Unit {0}
 IsWritable DeviceFault = Unit {0}
@@ -29,6 +30,7 @@ IsWritable (Damaged differ) = Unit {0}
 
 -- a refusal for what was given, and not for what the device did
 abbrev pub IsRefusal : CheckErr → Type 0
+IsRefusal NotMounted = Unit {0}
 IsRefusal (Wrong why) = Unit {0}
 IsRefusal (Mixed blocks) = Unit {0}
 IsRefusal DeviceFault = ⊥
@@ -36,6 +38,7 @@ IsRefusal (Damaged differ) = ⊥
 
 -- the stages of a check, which move no page, find none damaged, and take blocks that hold pages of both kinds
 abbrev pub IsOfStages : CheckErr → Type 0
+IsOfStages NotMounted = ⊥
 IsOfStages (Wrong why) = Unit {0}
 IsOfStages (Mixed blocks) = ⊥
 IsOfStages DeviceFault = Unit {0}
@@ -43,6 +46,7 @@ IsOfStages (Damaged differ) = ⊥
 
 -- a refusal for shared blocks that don't fit over tells how many there are
 abbrev pub CountsMixed : Geometry → List ℕ → CheckErr → Type 0
+CountsMixed g image NotMounted = Unit {0}
 CountsMixed g image (Mixed blocks) = (blocks ≡ shared_blocks g image) × (fits_over g image ≡ false)
 CountsMixed g image (Wrong why) = Unit {0}
 CountsMixed g image DeviceFault = Unit {0}

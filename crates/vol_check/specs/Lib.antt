@@ -1,3 +1,4 @@
+pub mod Owned
 pub mod Stage
 pub mod Culls
 pub mod MadeFresh

@@ -8,11 +8,13 @@ use Rattle.image_model.specs.Killed.{killed_of, is_dead_entry, dead_entries}
 use Rattle.image_model.specs.Shared.{SameCounts}
 use Rattle.image_laws.specs.Kills.{Turned}
 use Rattle.room_laws.specs.Staged.{OnlyKills}
+use Rattle.vol_check.specs.Owned.{IsOwn}
 
--- Pages were killed and nothing else, and the erase counts stay.
+-- Pages were killed and nothing else, the erase counts stay, and where each entry of 0xFFFF lay over an erased page each one does.
 pub record Kills (g : Geometry) (was now : List ℕ) : Type 0 where
   pub pages : OnlyKills g was now
   pub counts : SameCounts g was now
+  pub own : IsOwn g was → IsOwn g now
 
 -- an entry that is neither deleted nor free
 abbrev pub is_taken_entry : Geometry → List ℕ → ℕ → Bool

@@ -17,6 +17,7 @@ use Rattle.file_find.specs.Marks.{IsMarked, cause_at}
 use Rattle.flash_view.specs.Steps.{Step, Stepped, failed}
 use Rattle.vol_check.specs.declared.checking.Culled.{Culled}
 use Rattle.vol_check.specs.declared.report.Report.{Report}
+use Rattle.vol_check.specs.Owned.{OwnIf}
 use Rattle.vol_check.specs.Stage.{IsClean, CleansEntry, CleansEntries}
 use Rattle.vol_check.specs.Culls.{MayCull, Culls, is_doubled, HasNoDoubles, IsSettled, is_unwanted, IsServed, CullsDoubled, CullsHead, CullsRest, PassesDoubled}
 use Rattle.vol_check.specs.Culls.{PassesDamaged, PassesRest, CullsPages}
@@ -68,12 +69,17 @@ pub record TurnsDoubled (g : Geometry) (p : ℕ) (bits : List ℕ) (killed : Boo
 abbrev pub making_fresh : Work Bool
 making_fresh = record { needs = λ g was. Unit {0}; done = λ g was now erased. MadeFresh g erased was now; idle = λ g was. HasAllMagics g was }
 
-abbrev pub cleaning_entry : ℕ → Work Bool
-cleaning_entry p =
-    record { needs = λ g was. Unit {0}; done = λ g was now killed. CleansEntry g p killed was now; idle = λ g was. is_dead_entry g was p ≡ false }
+-- every block has its magic, and the image is as it is told to be
+pub record MayClean (own : Bool) (g : Geometry) (image : List ℕ) : Type 0 where
+  pub magics : HasAllMagics g image
+  pub owned : OwnIf own g image
 
-abbrev pub cleaning_entries : Work ℕ
-cleaning_entries = record { needs = λ g was. Unit {0}; done = λ g was now killed. CleansEntries g killed was now; idle = λ g was. IsClean g was }
+abbrev pub cleaning_entry : (own : Bool) → ℕ → Work Bool
+cleaning_entry own p =
+    record { needs = MayClean own; done = λ g was now killed. CleansEntry g p killed was now; idle = λ g was. is_dead_entry g was p ≡ false }
+
+abbrev pub cleaning_entries : (own : Bool) → Work ℕ
+cleaning_entries own = record { needs = MayClean own; done = λ g was now killed. CleansEntries g killed was now; idle = λ g was. IsClean g was }
 
 -- ---- live pages that aren't wanted
 
@@ -116,5 +122,5 @@ culling_pages = record { needs = λ g was. Unit {0}; done = λ g was now culled.
 
 -- ---- the whole check
 
-abbrev pub checking : Work Report
-checking = record { needs = λ g was. Unit {0}; done = λ g was now report. Checked g was now report; idle = λ g was. IsTidy g was }
+abbrev pub checking : (own : Bool) → Work Report
+checking own = record { needs = λ g was. OwnIf own g was; done = λ g was now report. Checked g was now report; idle = λ g was. IsTidy g was }

@@ -6,6 +6,7 @@ ghost use Rattle.image_model.specs.Sound.{HasMagics};
 ghost use Rattle.image_model.specs.Tidy.{IsTidy};
 ghost use Rattle.flash_view.specs.Same.{IsSameView};
 ghost use Rattle.vol_check.specs.Checks.{IsWritable, IsRefusal, IsOfStages, Checked};
+ghost use Rattle.vol_check.specs.Owned.{OwnIf};
 ghost use Rattle.vol_check.specs.Works.{Worked, StageCut, culling_pages, checking};
 
 use crate::damaged::cull_damaged;
@@ -43,13 +44,14 @@ fn cull_pages<N: Nor>(v: &mut View<'_, N>, marks: &mut [u8]) -> Result<Culled, F
 
 // Makes the block without its magic fresh, and kills what is to be killed. Once the entries are cleaned they tell what is free, and the
 // blocks are counted.
-fn clean<N: Nor>(v: &mut View<'_, N>, marks: &mut [u8]) -> Result<Report, Failed>
+fn clean<N: Nor>(v: &mut View<'_, N>, marks: &mut [u8], own: bool) -> Result<Report, Failed>
     requires room { check_need v.old.geometry ≤ length marks.old }
     requires magics { N.tells v.old.nor.now → HasMagics v.old.geometry (N.bytes v.old.nor.now) }
-    ensures { Worked v.old v.new result checking }
+    requires owned { N.tells v.old.nor.now → OwnIf own v.old.geometry (N.bytes v.old.nor.now) }
+    ensures { Worked v.old v.new result (checking own) }
 {
     let erased = make_fresh(v)?;
-    let dead = clean_entries(v)?;
+    let dead = clean_entries(v, own)?;
     count_all(v)?;
     let culled = cull_pages(v, marks)?;
     Ok(Report {
@@ -66,11 +68,17 @@ fn clean<N: Nor>(v: &mut View<'_, N>, marks: &mut [u8]) -> Result<Report, Failed
 /// header pages of damaged files, then the rest. So damaged files go, and the table stays, also at a cut. Blocks that hold
 /// wanted pages of both kinds are left as they are, and they find the same places: whether the image fits over can be told
 /// before. Refused, with nothing written, is only a volume that may not be written (`Wrong`). Where the device fails, what
-/// was done stays, and the check can be called again. The marks are bytes for notes, at least `Geometry::check_need`.
+/// was done stays, and the check can be called again. The marks are bytes for notes, at least `Geometry::check_need`. `own` tells that this
+/// engine alone wrote the volume: then pages whose entry is 0xFFFF aren't read.
 #[tactic(auto, using(flash_view::proofs::Looking::same_then))]
-pub fn check_stages<N: Nor>(v: &mut View<'_, N>, marks: &mut [u8]) -> Result<Report, CheckErr>
+pub fn check_stages<N: Nor>(
+    v: &mut View<'_, N>,
+    marks: &mut [u8],
+    own: bool,
+) -> Result<Report, CheckErr>
     requires room { check_need v.old.geometry ≤ length marks.old }
     requires magics { N.tells v.old.nor.now → HasMagics v.old.geometry (N.bytes v.old.nor.now) }
+    requires owned { N.tells v.old.nor.now → OwnIf own v.old.geometry (N.bytes v.old.nor.now) }
     ensures wrong { IfSome (write_refusal v.old.geometry) (λ why. result ≡ Err (CheckErr.Wrong why)) }
     ensures writable { write_refusal v.old.geometry ≡ None → IfErr result IsWritable }
     ensures among { IfErr result IsOfStages }
@@ -85,5 +93,5 @@ pub fn check_stages<N: Nor>(v: &mut View<'_, N>, marks: &mut [u8]) -> Result<Rep
     if let Err(why) = v.geometry.writable() {
         return Err(CheckErr::Wrong(why));
     }
-    Ok(clean(v, marks)?)
+    Ok(clean(v, marks, own)?)
 }

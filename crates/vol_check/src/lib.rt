@@ -1,6 +1,7 @@
 //! The check of a mounted volume, after which it may be written.
 #![tactic(auto)]
 
+mod blank;
 mod checking;
 mod culling;
 mod damaged;

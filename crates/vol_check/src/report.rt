@@ -23,6 +23,8 @@ pub struct Report {
 /// Why a volume isn't checked.
 #[derive(Clone, Copy, Debug, PartialEq, Eq)]
 pub enum CheckErr {
+    /// The volume isn't mounted, or it was checked since.
+    NotMounted,
     /// The numbers don't allow writing.
     Wrong(GeoErr),
     /// So many blocks are shared, and they don't fit over: they hold wanted pages of both kinds, and too few places are free for their

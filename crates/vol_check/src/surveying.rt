@@ -5,6 +5,7 @@ ghost use Rattle.nor_core.specs.Count.{Rose};
 ghost use Rattle.image_model.specs.Kinds.{is_mixed as the_mixed};
 ghost use Rattle.image_model.specs.Shared.{shared_blocks};
 ghost use Rattle.flash_view.specs.Same.{OnlyLooks};
+ghost use Rattle.vol_check.specs.Owned.{OwnIf};
 ghost use Rattle.vol_check.specs.Surveys.{IsSurvey, TellsParting};
 
 use crate::marking::mark_uses;
@@ -16,16 +17,18 @@ use geometry::Geometry;
 use nor_core::{Failed, Nor, NorState};
 
 /// Tells what a check has to part, of any image: header pages are judged, the pages of whole files are marked, and one
-/// pass over the blocks counts. The marks are bytes for notes, at least `Geometry::check_need`.
+/// pass over the blocks counts. The marks are bytes for notes, at least `Geometry::check_need`. `own` tells that this engine alone wrote
+/// the volume: then pages whose entry is 0xFFFF aren't read.
 #[tactic(auto, using(flash_view::proofs::Looking::looks_then))]
-pub fn survey<N: Nor>(v: &mut View<'_, N>, marks: &mut [u8]) -> Result<Survey, Failed>
+pub fn survey<N: Nor>(v: &mut View<'_, N>, marks: &mut [u8], own: bool) -> Result<Survey, Failed>
     requires room { check_need v.old.geometry ≤ length marks.old }
+    requires owned { N.tells v.old.nor.now → OwnIf own v.old.geometry (N.bytes v.old.nor.now) }
     ensures cause { OnErr result (Rose (N.faults v.old.nor.now) (N.faults v.new.nor.now)) }
     ensures looks { OnlyLooks v.old v.new }
     ensures told { N.tells v.old.nor.now → IfOk result (IsSurvey v.old.geometry (N.bytes v.old.nor.now)) }
 {
     mark_uses(v, marks)?;
-    let all = tally_all(v, marks)?;
+    let all = tally_all(v, marks, own)?;
     Ok(Survey {
         shared: all.shared,
         index_pages: all.index_pages,
@@ -88,10 +91,15 @@ fn parting_of(g: &Geometry, found: &Survey) -> Parting
 
 /// Tells how a check can go about blocks with pages of both kinds: whether some hold wanted pages of both, and then
 /// whether the index pages of these find places while two blocks stay free. The wanted pages are looked at only where a
-/// block holds live pages of both kinds. The marks are bytes for notes, at least `Geometry::check_need`.
+/// block holds live pages of both kinds. The marks are bytes for notes, at least `Geometry::check_need`; `own` is as in `survey`.
 #[tactic(auto, using(flash_view::proofs::Looking::looks_then))]
-pub fn judge_parting<N: Nor>(v: &mut View<'_, N>, marks: &mut [u8]) -> Result<Parting, Failed>
+pub fn judge_parting<N: Nor>(
+    v: &mut View<'_, N>,
+    marks: &mut [u8],
+    own: bool,
+) -> Result<Parting, Failed>
     requires room { check_need v.old.geometry ≤ length marks.old }
+    requires owned { N.tells v.old.nor.now → OwnIf own v.old.geometry (N.bytes v.old.nor.now) }
     ensures cause { OnErr result (Rose (N.faults v.old.nor.now) (N.faults v.new.nor.now)) }
     ensures looks { OnlyLooks v.old v.new }
     ensures told { N.tells v.old.nor.now → IfOk result (TellsParting v.old.geometry (N.bytes v.old.nor.now)) }
@@ -99,6 +107,6 @@ pub fn judge_parting<N: Nor>(v: &mut View<'_, N>, marks: &mut [u8]) -> Result<Pa
     if !has_mixed(v)? {
         return Ok(Parting::None);
     }
-    let found = survey(v, marks)?;
+    let found = survey(v, marks, own)?;
     Ok(parting_of(&v.geometry, &found))
 }

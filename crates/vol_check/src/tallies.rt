@@ -3,6 +3,7 @@ ghost use Rattle.std.specs.Prelude.{◌≡◌, ◌<◌, ◌≤◌, length, OnErr
 ghost use Rattle.geometry.specs.Numbers.{page_count};
 ghost use Rattle.nor_core.specs.Count.{Rose};
 ghost use Rattle.flash_view.specs.Same.{OnlyLooks};
+ghost use Rattle.vol_check.specs.Owned.{OwnIf};
 ghost use Rattle.vol_check.specs.Needed.{MarksUses};
 ghost use Rattle.vol_check.specs.Used.{tally_by, no_tally as the_none, spoiled_tally as the_spoiled, both_tallies, FewUses, IsFew, IsTally, IsTallied};
 
@@ -89,36 +90,45 @@ fn both(a: &Tally, b: &Tally) -> Tally
 
 // What a block adds.
 #[tactic(auto, using(flash_view::proofs::Looking::looks_then))]
-fn block_tally<N: Nor>(v: &mut View<'_, N>, marks: &[u8], block: u16) -> Result<Tally, Failed>
+fn block_tally<N: Nor>(
+    v: &mut View<'_, N>,
+    marks: &[u8],
+    block: u16,
+    own: bool,
+) -> Result<Tally, Failed>
     requires room { page_count v.old.geometry ≤ length marks.now }
     requires block { block < v.old.geometry.blocks }
     ensures cause { OnErr result (Rose (N.faults v.old.nor.now) (N.faults v.new.nor.now)) }
     ensures looks { OnlyLooks v.old v.new }
     ensures few { IfOk result (IsFew 65535) }
-    ensures told { N.tells v.old.nor.now → MarksUses v.old.geometry (N.bytes v.old.nor.now) marks.now →
+    ensures told { N.tells v.old.nor.now → OwnIf own v.old.geometry (N.bytes v.old.nor.now) → MarksUses v.old.geometry (N.bytes v.old.nor.now) marks.now →
         IfOk result (IsTally v.old.geometry (N.bytes v.old.nor.now) block) }
 {
     if !v.has_magic(block)? {
         return Ok(spoiled_tally());
     }
-    let uses = block_uses(v, marks, block)?;
+    let uses = block_uses(v, marks, block, own)?;
     Ok(tally_of(&uses, v.geometry.entries()))
 }
 
 /// What all blocks add.
 #[tactic(auto, using(flash_view::proofs::Looking::looks_then))]
-pub(crate) fn tally_all<N: Nor>(v: &mut View<'_, N>, marks: &[u8]) -> Result<Tally, Failed>
+pub(crate) fn tally_all<N: Nor>(
+    v: &mut View<'_, N>,
+    marks: &[u8],
+    own: bool,
+) -> Result<Tally, Failed>
     requires room { page_count v.old.geometry ≤ length marks.now }
     ensures cause { OnErr result (Rose (N.faults v.old.nor.now) (N.faults v.new.nor.now)) }
     ensures looks { OnlyLooks v.old v.new }
     ensures few { IfOk result (IsFew 4294836225) }
-    ensures told { N.tells v.old.nor.now → MarksUses v.old.geometry (N.bytes v.old.nor.now) marks.now →
+    ensures told { N.tells v.old.nor.now → OwnIf own v.old.geometry (N.bytes v.old.nor.now) → MarksUses v.old.geometry (N.bytes v.old.nor.now) marks.now →
         IfOk result (IsTallied v.old.geometry (N.bytes v.old.nor.now)) }
 {
     let mut all = no_tally();
     for block in 0..v.geometry.blocks() as u16 {
-        let own = block_tally(v, marks, block)?;
-        all = both(&all, &own);
+        let one = block_tally(v, marks, block, own)?;
+        all = both(&all, &one);
     }
     Ok(all)
 }

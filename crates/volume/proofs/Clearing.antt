@@ -12,7 +12,7 @@ use Rattle.flash_view.specs.declared.view.View.{View}
 use Rattle.flash_view.specs.Steps.{Step, Stepped, stopped}
 use Rattle.flash_view.proofs.Stepped.{fails_as}
 use Rattle.vol_check.specs.declared.report.CheckErr.{CheckErr}
-use Rattle.vol_check.specs.declared.report.CheckErr.TheVariants.{Wrong, Mixed, DeviceFault, Damaged}
+use Rattle.vol_check.specs.declared.report.CheckErr.TheVariants.{NotMounted, Wrong, Mixed, DeviceFault, Damaged}
 use Rattle.vol_check.specs.Checks.{IsWritable, IsRefusal, IsOfStages, CountsMixed, as_check_err}
 use Rattle.volume.specs.Checking.{IsApart, IsUndamaged, MayStop, Cleared, check_stopped}
 use Rattle.file_calls.proofs.Going.{tidy_sound}
@@ -29,6 +29,7 @@ stages_undamaged _ h = tt
 
 -- they find no shared block
 pub stages_mixed : (g : Geometry) (image : List ℕ) (why : CheckErr) → IsOfStages why → CountsMixed g image why
+stages_mixed g image NotMounted h = absurd h
 stages_mixed g image (Mixed n) h = absurd h
 stages_mixed g image (Wrong w) h = tt
 stages_mixed g image DeviceFault h = tt
@@ -56,24 +57,28 @@ pub same_err : {T : Type 0} (v w : CheckErr) → IsErrOf {T = T} (Err v) w → v
 same_err v w e = cc
 
 pub stop_writable : (why : CheckErr) → MayStop why → IsWritable why
+stop_writable NotMounted h = absurd h
 stop_writable (Wrong w) h = absurd h
 stop_writable (Mixed n) h = absurd h
 stop_writable DeviceFault h = tt
 stop_writable (Damaged d) h = tt
 
 pub stop_mixed : (g : Geometry) (image : List ℕ) (why : CheckErr) → MayStop why → CountsMixed g image why
+stop_mixed g image NotMounted h = absurd h
 stop_mixed g image (Wrong w) h = absurd h
 stop_mixed g image (Mixed n) h = absurd h
 stop_mixed g image DeviceFault h = tt
 stop_mixed g image (Damaged d) h = tt
 
 pub stop_goes_on : (why : CheckErr) → MayStop why → IsRefusal why → ⊥
+stop_goes_on NotMounted h r = absurd h
 stop_goes_on (Wrong w) h r = absurd h
 stop_goes_on (Mixed n) h r = absurd h
 stop_goes_on DeviceFault h r = r
 stop_goes_on (Damaged d) h r = r
 
 pub stop_apart : (why : CheckErr) → MayStop why → IsApart why
+stop_apart NotMounted h = tt
 stop_apart (Wrong w) h = tt
 stop_apart (Mixed n) h = tt
 stop_apart DeviceFault h = tt

@@ -9,6 +9,7 @@ pub mod WriteCalls
 pub mod Calling
 pub mod RunSettling
 pub mod Scrubbings
+pub mod Cleanings
 pub mod MapCalls
 mod LookedAfter
 mod KnownMaps

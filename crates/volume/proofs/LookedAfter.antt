@@ -7,8 +7,7 @@ use Rattle.nor_core.specs.Device.{OnlyReads}
 use Rattle.nor_core.proofs.Cuts.{read_after, reads_then}
 use Rattle.table_model.specs.declared.error.FsErr.{FsErr}
 use Rattle.table_model.specs.declared.error.FsErr.TheVariants.{DeviceFault}
-use Rattle.table_model.specs.Table.{File, State, put_file}
-use Rattle.table_model.specs.Files.{written}
+use Rattle.table_model.specs.Table.{File, State}
 use Rattle.table_model.specs.Reply.{Answer}
 use Rattle.table_model.specs.Ask.{Ask}
 use Rattle.table_model.specs.Window.{Moment}

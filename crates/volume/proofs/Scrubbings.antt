@@ -1,6 +1,6 @@
 -- A scrub on a volume: what waits is put onto the chip, and then one step is made where nothing waits.
-use Rattle.std.proofs.Common.{◌≡◌, ℕ, ◌+◌, ◌≤◌, ◌⊎◌, ⊎_elim, inl, inr, List, [], length, Bool, true, false, ◌||◌, refl, sym, ◌∙◌, ap, subst, arith}
-use Rattle.std.specs.Prelude.{◌≢◌, None, Result, Ok, Err, IfOk, IfErr, MatchResult}
+use Rattle.std.proofs.Common.{◌≡◌, ℕ, ◌≤◌, ◌⊎◌, ⊎_elim, inl, inr, List, [], length, Bool, true, false, ◌||◌, refl, sym, ◌∙◌, ap, subst, arith}
+use Rattle.std.specs.Prelude.{◌≢◌, None, Result, Ok, Err, IfErr, MatchResult}
 use Rattle.std.proofs.lemmas.Bool.{cases_Bool}
 use Rattle.geometry.specs.declared.geometry.Geometry.{Geometry}
 use Rattle.nor_core.specs.declared.state.NorState.{Ghosts as NorOf}
@@ -26,7 +26,8 @@ use Rattle.call_model.proofs.Safety.{holds_safe, holds_then, holds_itself, safe_
 use Rattle.call_model.proofs.After.{settled-among}
 use Rattle.wear_scrub.specs.declared.scrubs.Scrub.{Scrub}
 use Rattle.wear_scrub.specs.declared.scrubs.Scrub.TheVariants.{NoRoom, Rested, Moved}
-use Rattle.wear_scrub.specs.Scrubs.{ScrubCut, ScrubDone, IsRest, most_programs, scrubbing}
+use Rattle.wear_scrub.specs.Scrubs.{IsLevel, ScrubCut, PickDone, ScrubDone, IsAtRest, scrubbing}
+use Rattle.wear_scrub.proofs.Steps.{rest_is_quiet}
 use Rattle.volume.specs.declared.stage.Stage.{Stage}
 use Rattle.volume.specs.declared.stage.Stage.TheVariants.{Checked}
 use Rattle.volume.specs.declared.volume.Volume.{Volume}
@@ -48,17 +49,21 @@ use Rattle.volume.proofs.KnownMaps.{never, refills, shut_breaks, keeps_broken, k
 -- ---- images
 
 -- a step leaves a tidy image, and two free blocks that were there
-done_tidy : (g : Geometry) (limit : ℕ) (was now : List ℕ) (scrub : Scrub) → IsTidy g was → ScrubDone g limit was now scrub → IsTidy g now × (HasReserve g was → HasReserve g now)
-done_tidy g limit was now (NoRoom free) tidy done = (subst (λ (l : List ℕ). IsTidy g l) (sym done.1) tidy, λ reserve. subst (λ (l : List ℕ). HasReserve g l) (sym done.1) reserve)
-done_tidy g limit was now Rested tidy done = (subst (λ (l : List ℕ). IsTidy g l) (sym done.1) tidy, λ reserve. subst (λ (l : List ℕ). HasReserve g l) (sym done.1) reserve)
-done_tidy g limit was now (Moved block age) tidy done = (done.1.cleaned.cleaned.after, λ reserve. done.1.reserve)
+picked_tidy : (g : Geometry) (limit before after : ℕ) (was now : List ℕ) (scrub : Scrub) → IsTidy g was → PickDone g limit before after was now scrub → IsTidy g now × (HasReserve g was → HasReserve g now)
+picked_tidy g limit before after was now (NoRoom free) tidy done = (subst (λ (l : List ℕ). IsTidy g l) (sym done.1) tidy, λ reserve. subst (λ (l : List ℕ). HasReserve g l) (sym done.1) reserve)
+picked_tidy g limit before after was now Rested tidy done = (subst (λ (l : List ℕ). IsTidy g l) (sym done.1) tidy, λ reserve. subst (λ (l : List ℕ). HasReserve g l) (sym done.1) reserve)
+picked_tidy g limit before after was now (Moved block age) tidy done = (done.1.moved.freed.cleanings.tidy, λ reserve. done.1.reserve)
+
+done_tidy : (g : Geometry) (limit before after : ℕ) (was now : List ℕ) (scrub : Scrub) → IsTidy g was → ScrubDone g limit before after was now scrub → IsTidy g now × (HasReserve g was → HasReserve g now)
+done_tidy g limit before after was now scrub tidy done = ⊎_elim
+    (λ none. (subst (λ (l : List ℕ). IsTidy g l) (sym none.2) tidy, λ reserve. subst (λ (l : List ℕ). HasReserve g l) (sym none.2) reserve))
+    (λ made.
+    let step = made.1 in
+    let left = picked_tidy g limit step.between after step.middle now scrub step.freed.cleanings.tidy step.done in
+    (left.0, λ reserve. left.1 (step.reserve reserve)))
+    done
 
 -- ---- answers
-
--- what holds of a step that is done, by what else holds of it
-if_ok : {P Q : Scrub → Type 0} (r : Result Scrub StepErr) → ((scrub : Scrub) → P scrub → Q scrub) → IfOk r P → IfOk r Q
-if_ok (Ok scrub) by here = by scrub here
-if_ok (Err why) by here = tt
 
 -- each way in which a step fails breaks the call, and may come where bytes wait
 all_break : (why : StepErr) → breaks (Refuses (as_fs_err why)) ≡ true
@@ -93,17 +98,17 @@ stage_by false why new e = inr (e, refl)
 
 module _ {N : Type 0} {nor : NorOf N} where
   -- a step over a view, as one on its device
-  pub scrubs_on : {limit : ℕ} {old new : View N nor} {result : Result Scrub StepErr} → (nor.tells old.nor.now → IsImage old.geometry (nor.bytes old.nor.now)) → Stepped stopped old new result (scrubbing limit) → old.wrote ≡ false →
-      IfOk result (λ scrub. IsRest scrub → OnlyReads nor old.nor.now new.nor.now) → (nor.tells old.nor.now → IsTidy old.geometry (nor.bytes old.nor.now) → IfOk result (λ scrub. nor.device_writes new.nor.now ≤ nor.device_writes old.nor.now + most_programs old.geometry (nor.bytes old.nor.now) scrub)) →
+  pub scrubs_on : {limit : ℕ} {old new : View N nor} {result : Result Scrub StepErr} → (nor.tells old.nor.now → IsImage old.geometry (nor.bytes old.nor.now)) →
+      Stepped stopped old new result (scrubbing limit (nor.device_writes old.nor.now) (nor.device_writes new.nor.now)) → old.wrote ≡ false →
+      (nor.tells old.nor.now → IsTidy old.geometry (nor.bytes old.nor.now) → IsLevel old.geometry (nor.bytes old.nor.now) limit → OnlyReads nor old.nor.now new.nor.now) →
       ScrubsOn nor old.geometry limit old.nor.now new.nor.now new.wrote result
-  scrubs_on image step fresh rest few = record {
+  scrubs_on image step fresh idle = record {
     untouched = step.framed.untouched fresh;
     cause = step.cause;
     means = step.means;
     cuts = wider step.cuts (λ tells c cut tidy. cut (image tells, tidy));
     ends = λ tells tidy. step.ends tells (image tells, tidy);
-    rest = rest;
-    few = few;
+    rest = idle;
   }
 
   -- a step after which the device is only read
@@ -113,9 +118,10 @@ module _ {N : Type 0} {nor : NorOf N} where
     cause = λ e. let rose = was.cause e in omega (arith, rose, reads.faults);
     means = was.means;
     cuts = read_after was.cuts reads;
-    ends = λ tells tidy. subst (λ (l : List ℕ). MatchResult result (ScrubDone g limit (nor.bytes old) l) (λ why. why ≡ DeviceFault)) (sym reads.bytes) (was.ends tells tidy);
-    rest = if_ok result (λ scrub by rests. reads_then (by rests) reads) was.rest;
-    few = λ tells tidy. if_ok result (λ scrub most. omega (arith, most, reads.writes)) (was.few tells tidy);
+    ends = λ tells tidy.
+        subst (λ (l : List ℕ). MatchResult result (ScrubDone g limit (nor.device_writes old) (nor.device_writes new) (nor.bytes old) l) (λ why. why ≡ DeviceFault)) (sym reads.bytes)
+        (subst (λ (count : ℕ). MatchResult result (ScrubDone g limit (nor.device_writes old) count (nor.bytes old) (nor.bytes mid)) (λ why. why ≡ DeviceFault)) (sym reads.writes) (was.ends tells tidy));
+    rest = λ tells tidy level. reads_then (was.rest tells tidy level) reads;
   }
 
   pub scrubs_read : {had : Bool} {limit : ℕ} {old mid new : Volume N nor} {result : Result Scrub FsErr} → ScrubsSettled had limit old mid result → OnlyReads nor mid.nor.now new.nor.now → new.slots.now ≡ mid.slots.now → (memory new).run ≡ (memory mid).run → new.stage ≡ mid.stage → ScrubsSettled had limit old new result
@@ -174,8 +180,8 @@ module _ {N : Type 0} {nor : NorOf N} where
         stays = inl refl;
         empty = λ takes. absurd (closed takes);
         goes_on = λ takes. absurd (closed takes);
-        rest = λ takes. absurd (closed takes);
-        few = λ m takes. absurd (closed takes);
+        rest = λ m takes. absurd (closed takes);
+        quiet = λ m takes. absurd (closed takes);
         maps = λ m takes. absurd (closed takes);
       }
 
@@ -196,8 +202,8 @@ module _ {N : Type 0} {nor : NorOf N} where
     stays = ⊎_elim (λ (stood : new.stage ≡ old.stage). inl stood) (λ (broke : (has_failed new ≡ true) × (breaks (Refuses why) ≡ true)). inr broke.0) settles.stops.stays;
     empty = λ takes_too. tt;
     goes_on = λ takes_too. tt;
-    rest = λ takes_too none. tt;
-    few = λ m takes_too none here. tt;
+    rest = λ m takes_too none here level. tt;
+    quiet = λ m takes_too none here rest. tt;
     maps = λ m takes_too here. keeps_broken (breaks (Refuses why)) (ap (λ (w : FsErr). breaks (Refuses w)) (settles.stands m here)) room map;
   }
 
@@ -237,22 +243,31 @@ module _ {N : Type 0} {nor : NorOf N} where
       cuts_by : Changes nor old.nor.now new.nor.now (λ was image. (m : Moment) → IsAt old.geometry was (memory old) m → IsSafe old.geometry was image × IsAmong (table_of old.geometry image) (from_settled m []))
       cuts_by = go_on settles.cuts scrubs.cuts (λ tells image before cut m at. let here : Holds old m = record { tells = tells; image = at } in cut_by m here image (cut (tidy_mid m here)))
 
+      settled_is : (memory old).run ≡ None → nor.bytes mid.nor.now ≡ nor.bytes old.nor.now
+      settled_is idle = ap (λ (v : Volume N nor). nor.bytes v.nor.now) (settles.idle idle).1
+
       -- it is done
-      done_by : (scrub : Scrub) (m : Moment) → Holds old m → ScrubDone old.geometry limit (nor.bytes mid.nor.now) (nor.bytes new.nor.now) scrub →
-          Holds new (settled_at m.state) × HoldsImage old.geometry (nor.bytes old.nor.now) (nor.bytes new.nor.now) × ScrubbedFrom old.geometry limit ((memory old).run ≡ None) (nor.bytes old.nor.now) (nor.bytes new.nor.now) scrub
+      done_by : (scrub : Scrub) (m : Moment) → Holds old m → ScrubDone old.geometry limit (nor.device_writes mid.nor.now) (nor.device_writes new.nor.now) (nor.bytes mid.nor.now) (nor.bytes new.nor.now) scrub →
+          Holds new (settled_at m.state) × HoldsImage old.geometry (nor.bytes old.nor.now) (nor.bytes new.nor.now)
+          × ScrubbedFrom old.geometry limit ((memory old).run ≡ None) (nor.device_writes old.nor.now) (nor.device_writes new.nor.now) (nor.bytes old.nor.now) (nor.bytes new.nor.now) scrub
       unfolding settled_at
       done_by scrub m here step =
           let g = old.geometry in
           let tidy = tidy_mid m here in
           let mid_is = (stood m here).0 in
           let kept = scrubs.cuts.now mid_is.tells tidy in
-          let left = done_tidy g limit (nor.bytes mid.nor.now) (nor.bytes new.nor.now) scrub tidy step in
+          let left = done_tidy g limit (nor.device_writes mid.nor.now) (nor.device_writes new.nor.now) (nor.bytes mid.nor.now) (nor.bytes new.nor.now) scrub tidy step in
           let image : IsAt g (nor.bytes new.nor.now) (record { slots = (memory mid).slots; run = None }) (settled_at m.state) =
           record { tidy = left.0; table = kept.keeps.table ∙ table_mid m here; slots = mid_is.image.slots; run = refl; opened = mid_is.image.opened } in (
             settled_now mid new m.state same did.slots (did.run ∙ none) (scrubs.cuts.cuts.told mid_is.tells)
                 (subst (λ (h : Geometry). IsAt h (nor.bytes new.nor.now) (record { slots = (memory mid).slots; run = None }) (settled_at m.state)) (sym settles.same.geometry) image),
             holds_then g (nor.bytes old.nor.now) (nor.bytes mid.nor.now) (nor.bytes new.nor.now) (stood m here).1 (record { sound = λ magics. kept.keeps.sound; reserve = left.1 }),
-            record { settled = nor.bytes mid.nor.now; first = λ idle. ap (λ (v : Volume N nor). nor.bytes v.nor.now) (settles.idle idle).1; step = step },
+            record {
+              settled = nor.bytes mid.nor.now;
+              count = nor.device_writes mid.nor.now;
+              first = λ idle. (ap (λ (v : Volume N nor). nor.bytes v.nor.now) (settles.idle idle).1, ap (λ (v : Volume N nor). nor.device_writes v.nor.now) (settles.idle idle).1);
+              step = step;
+            },
           )
 
       -- where it failed and nothing was asked for, nothing is changed
@@ -293,7 +308,7 @@ module _ {N : Type 0} {nor : NorOf N} where
             same = same_then settles.same same;
             slots = did.slots ∙ settles.slots;
             cuts = cuts_by;
-            done = λ m takes_too here. done_by scrub m here (subst (λ (r : Result Scrub StepErr). MatchResult r (ScrubDone old.geometry limit (nor.bytes mid.nor.now) (nor.bytes new.nor.now)) (λ why. why ≡ DeviceFault)) is (scrubs.ends (stood m here).0.tells (tidy_mid m here)));
+            done = λ m takes_too here. done_by scrub m here (subst (λ (r : Result Scrub StepErr). MatchResult r (ScrubDone old.geometry limit (nor.device_writes mid.nor.now) (nor.device_writes new.nor.now) (nor.bytes mid.nor.now) (nor.bytes new.nor.now)) (λ why. why ≡ DeviceFault)) is (scrubs.ends (stood m here).0.tells (tidy_mid m here)));
             closed = λ shut. absurd (let no : true ≡ false = sym takes ∙ shut in cc);
             among = λ takes_too. tt;
             cause = λ e. absurd (cc);
@@ -303,9 +318,14 @@ module _ {N : Type 0} {nor : NorOf N} where
             stays = inl stage;
             empty = λ takes_too. did.run ∙ none;
             goes_on = λ takes_too. stage;
-            rest = λ takes_too idle. subst (λ (v : Volume N nor). IsRest scrub → OnlyReads nor v.nor.now new.nor.now) (settles.idle idle).1 (subst (λ (r : Result Scrub StepErr). IfOk r (λ s. IsRest s → OnlyReads nor mid.nor.now new.nor.now)) is scrubs.rest);
-            few = λ m takes_too idle here. subst (λ (v : Volume N nor). nor.device_writes new.nor.now ≤ nor.device_writes v.nor.now + most_programs old.geometry (nor.bytes v.nor.now) scrub) (settles.idle idle).1
-                (subst (λ (r : Result Scrub StepErr). IfOk r (λ s. nor.device_writes new.nor.now ≤ nor.device_writes mid.nor.now + most_programs old.geometry (nor.bytes mid.nor.now) s)) is (scrubs.few (stood m here).0.tells (tidy_mid m here)));
+            rest = λ m takes_too idle here level.
+                subst (λ (v : Volume N nor). OnlyReads nor v.nor.now new.nor.now) (settles.idle idle).1
+                (scrubs.rest (stood m here).0.tells (tidy_mid m here) (subst (λ (l : List ℕ). IsLevel old.geometry l limit) (sym (settled_is idle)) level));
+            quiet = λ m takes_too idle here rest.
+                let done : ScrubDone old.geometry limit (nor.device_writes mid.nor.now) (nor.device_writes new.nor.now) (nor.bytes mid.nor.now) (nor.bytes new.nor.now) scrub =
+                subst (λ (r : Result Scrub StepErr). MatchResult r (ScrubDone old.geometry limit (nor.device_writes mid.nor.now) (nor.device_writes new.nor.now) (nor.bytes mid.nor.now) (nor.bytes new.nor.now)) (λ why. why ≡ DeviceFault)) is (scrubs.ends (stood m here).0.tells (tidy_mid m here)) in
+                subst (λ (v : Volume N nor). nor.device_writes new.nor.now ≤ nor.device_writes v.nor.now) (settles.idle idle).1
+                (rest_is_quiet old.geometry limit _ _ _ _ scrub (subst (λ (l : List ℕ). IsAtRest old.geometry l limit) (sym (settled_is idle)) rest) done);
             maps = λ m takes_too here. subst (λ (r : Result Scrub FsErr). KeepsMap old new (breaks (told (λ s. Fine) r))) (did.is ∙ ap told_as is) keeps;
           }
       by_result (Err why) is =
@@ -315,7 +335,7 @@ module _ {N : Type 0} {nor : NorOf N} where
             same = same_then settles.same same;
             slots = did.slots ∙ settles.slots;
             cuts = cuts_by;
-            done = λ m takes_too here. ap as_fs_err (subst (λ (r : Result Scrub StepErr). MatchResult r (ScrubDone old.geometry limit (nor.bytes mid.nor.now) (nor.bytes new.nor.now)) (λ w. w ≡ DeviceFault)) is (scrubs.ends (stood m here).0.tells (tidy_mid m here)));
+            done = λ m takes_too here. ap as_fs_err (subst (λ (r : Result Scrub StepErr). MatchResult r (ScrubDone old.geometry limit (nor.device_writes mid.nor.now) (nor.device_writes new.nor.now) (nor.bytes mid.nor.now) (nor.bytes new.nor.now)) (λ w. w ≡ DeviceFault)) is (scrubs.ends (stood m here).0.tells (tidy_mid m here)));
             closed = λ shut. absurd (let no : true ≡ false = sym takes ∙ shut in cc);
             among = λ takes_too. all_settle why;
             cause = λ e.
@@ -336,8 +356,8 @@ module _ {N : Type 0} {nor : NorOf N} where
                 led;
             empty = λ takes_too. tt;
             goes_on = λ takes_too. tt;
-            rest = λ takes_too idle. tt;
-            few = λ m takes_too idle here. tt;
+            rest = λ m takes_too idle here level. tt;
+            quiet = λ m takes_too idle here rest. tt;
             maps = λ m takes_too here. subst (λ (r : Result Scrub FsErr). KeepsMap old new (breaks (told (λ s. Fine) r))) (did.is ∙ ap told_as is) keeps;
           }
 

@@ -112,8 +112,9 @@ module _ {N : Type 0} {nor : NorOf N} where
     -- is made fresh; a call that takes no index page, such as a remove, cleans none
     pub cleans : (m : Moment) → takes_calls old ≡ true → HasNone old → Holds old m → is_write ask ≡ false → ask ≢ Collects →
         CleansFor nor old.geometry (index_taken ask) 0 (rest_taken old.geometry ask) old.nor.now new.nor.now (reply ≡ Refuses DeviceFault)
-    -- and a write cleans in turns, one for each step that it publishes at most, and one more where the tail of its file is to be made ready: each
-    -- has such a first part, for two index pages and one data page, and no block is made fresh from there to the end of the turn
+    -- and a write cleans in turns, which have no more data pages all together than it publishes steps, and one more where the tail of its file is
+    -- to be made ready: each has such a first part, for two index pages and its data pages, sixteen at most, and no block is made fresh from
+    -- there to the end of the turn
     pub turns : (m : Moment) → takes_calls old ≡ true → HasNone old → Holds old m → is_write ask ≡ true →
         CleansInTurns nor old.geometry (WritesNoTail old.geometry (nor.bytes old.nor.now) m.state ask)
         (length (steps old.geometry (has_spare old.geometry (nor.bytes old.nor.now)) m.state ask)) old.nor.now new.nor.now (reply ≡ Refuses DeviceFault)

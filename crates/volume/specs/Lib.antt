@@ -12,6 +12,7 @@ pub mod Settles
 pub mod Settled
 pub mod Extends
 pub mod Scrubs
+pub mod Cleaning
 pub mod Unmounts
 pub mod Calls
 pub mod Checking

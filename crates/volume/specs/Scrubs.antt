@@ -1,5 +1,5 @@
 -- What a scrub step does to a volume.
-use Rattle.std.specs.Prelude.{◌≡◌, ◌≢◌, ◌⊎◌, ℕ, ◌+◌, ◌≤◌, List, [], Bool, true, false, ◌||◌, None, Result, Ok, Err, OnOk, IfOk, IfErr, IsErrOf, MatchResult}
+use Rattle.std.specs.Prelude.{◌≡◌, ◌≢◌, ◌⊎◌, ℕ, ◌≤◌, List, [], Bool, true, false, ◌||◌, None, Result, Ok, Err, OnOk, IfOk, IfErr, IsErrOf, MatchResult}
 use Rattle.geometry.specs.declared.geometry.Geometry.{Geometry}
 use Rattle.nor_core.specs.declared.state.NorState.{Ghosts as NorOf}
 use Rattle.nor_core.specs.Count.{Rose}
@@ -17,7 +17,7 @@ use Rattle.flash_view.specs.Steps.{is_apart, as_fs_err}
 use Rattle.call_model.specs.Safe.{IsSafe, HoldsImage}
 use Rattle.call_model.specs.Memory.{IsAt}
 use Rattle.wear_scrub.specs.declared.scrubs.Scrub.{Scrub}
-use Rattle.wear_scrub.specs.Scrubs.{ScrubCut, ScrubDone, IsRest, most_programs}
+use Rattle.wear_scrub.specs.Scrubs.{IsLevel, ScrubCut, ScrubDone, IsAtRest}
 use Rattle.volume.specs.declared.volume.Volume.{Volume}
 use Rattle.volume.specs.Opening.{stage_after}
 use Rattle.volume.specs.Stages.{takes_calls, has_failed}
@@ -27,11 +27,12 @@ use Rattle.volume.specs.Holds.{memory, Holds}
 use Rattle.volume.specs.Mapping.{KeepsMap}
 use Rattle.volume.specs.Unchanged.{Unchanged}
 
--- One step was made from the image where all is settled: the first one, where nothing waited.
-pub record ScrubbedFrom (g : Geometry) (limit : ℕ) (idle : Type 0) (old new : List ℕ) (scrub : Scrub) : Type 0 where
+-- One step was made from the image and the count of programs and erases where all is settled: the first ones, where nothing waited.
+pub record ScrubbedFrom (g : Geometry) (limit : ℕ) (idle : Type 0) (before after : ℕ) (old new : List ℕ) (scrub : Scrub) : Type 0 where
   pub settled : List ℕ
-  pub first : idle → settled ≡ old
-  pub step : ScrubDone g limit settled new scrub
+  pub count : ℕ
+  pub first : idle → (settled ≡ old) × (count ≡ before)
+  pub step : ScrubDone g limit count after settled new scrub
 
 -- What a step does to a device. `wrote` says whether a program or an erase was asked for.
 pub record ScrubsOn {D : Type 0} (nor : NorOf D) (g : Geometry) (limit : ℕ) (old new : D) (wrote : Bool) (result : Result Scrub StepErr) : Type 0 where
@@ -39,10 +40,9 @@ pub record ScrubsOn {D : Type 0} (nor : NorOf D) (g : Geometry) (limit : ℕ) (o
   pub cause : IsErrOf result StepFault → Rose (nor.faults old) (nor.faults new)
   pub means : IfErr result is_apart
   pub cuts : Changes nor old new (λ was image. IsTidy g was → ScrubCut g was image)
-  pub ends : nor.tells old → IsTidy g (nor.bytes old) → MatchResult result (ScrubDone g limit (nor.bytes old) (nor.bytes new)) (λ why. why ≡ StepFault)
-  pub rest : IfOk result (λ scrub. IsRest scrub → OnlyReads nor old new)
-  pub few : nor.tells old → IsTidy g (nor.bytes old) →
-      IfOk result (λ scrub. nor.device_writes new ≤ nor.device_writes old + most_programs g (nor.bytes old) scrub)
+  pub ends : nor.tells old → IsTidy g (nor.bytes old) →
+      MatchResult result (ScrubDone g limit (nor.device_writes old) (nor.device_writes new) (nor.bytes old) (nor.bytes new)) (λ why. why ≡ StepFault)
+  pub rest : nor.tells old → IsTidy g (nor.bytes old) → IsLevel g (nor.bytes old) limit → OnlyReads nor old new
 
 -- how a call is answered whose step went so
 abbrev pub told_as : Result Scrub StepErr → Result Scrub FsErr
@@ -72,7 +72,8 @@ module _ {N : Type 0} {nor : NorOf N} where
     pub done : (m : Moment) → takes_calls old ≡ true → Holds old m →
         MatchResult result
         (λ scrub. Holds new (settled_at m.state) × HoldsImage old.geometry (nor.bytes old.nor.now) (nor.bytes new.nor.now)
-        × ScrubbedFrom old.geometry limit ((memory old).run ≡ None) (nor.bytes old.nor.now) (nor.bytes new.nor.now) scrub)
+        × ScrubbedFrom old.geometry limit ((memory old).run ≡ None) (nor.device_writes old.nor.now) (nor.device_writes new.nor.now) (nor.bytes old.nor.now)
+        (nor.bytes new.nor.now) scrub)
         (λ why. why ≡ DeviceFault)
     -- one that takes no calls is left as it is
     pub closed : takes_calls old ≡ false → (result ≡ Err Failed) × (new ≡ old)
@@ -87,9 +88,11 @@ module _ {N : Type 0} {nor : NorOf N} where
     -- done, nothing waits, and it takes calls as before
     pub empty : takes_calls old ≡ true → OnOk result ((memory new).run ≡ None)
     pub goes_on : takes_calls old ≡ true → OnOk result (new.stage ≡ old.stage)
-    -- where nothing waited: a step that cleans no block only reads, and the sum of programs and erases is bounded
-    pub rest : takes_calls old ≡ true → (memory old).run ≡ None → IfOk result (λ scrub. IsRest scrub → OnlyReads nor old.nor.now new.nor.now)
-    pub few : (m : Moment) → takes_calls old ≡ true → (memory old).run ≡ None → Holds old m →
-        IfOk result (λ scrub. nor.device_writes new.nor.now ≤ nor.device_writes old.nor.now + most_programs old.geometry (nor.bytes old.nor.now) scrub)
+    -- where nothing waited and no block is old enough the device is only read
+    pub rest : (m : Moment) → takes_calls old ≡ true → (memory old).run ≡ None → Holds old m → IsLevel old.geometry (nor.bytes old.nor.now) limit →
+        IfOk result (λ scrub. OnlyReads nor old.nor.now new.nor.now)
+    -- nor is anything programmed or erased where one is, but none that is may be moved, and no block is worth cleaning
+    pub quiet : (m : Moment) → takes_calls old ≡ true → (memory old).run ≡ None → Holds old m → IsAtRest old.geometry (nor.bytes old.nor.now) limit →
+        IfOk result (λ scrub. nor.device_writes new.nor.now ≤ nor.device_writes old.nor.now)
     -- the map of a file stays that of the file
     pub maps : (m : Moment) → takes_calls old ≡ true → Holds old m → KeepsMap old new (breaks (told (λ scrub. Fine) result))

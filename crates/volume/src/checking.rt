@@ -7,6 +7,7 @@ ghost use Rattle.image_model.specs.Sound.{HasMagics};
 ghost use Rattle.image_model.specs.Tidy.{IsTidy};
 ghost use Rattle.flash_view.specs.Same.{IsSameView, OnlyCounts};
 ghost use Rattle.flash_view.specs.Steps.{Stepped};
+ghost use Rattle.vol_check.specs.Owned.{OwnIf};
 ghost use Rattle.block_gc.specs.Partings.{parting};
 ghost use Rattle.volume.specs.Checking.{ChecksVolume, Judges, check_stopped, sweeping, clearing, dividing, finishing};
 
@@ -36,14 +37,15 @@ fn clear<N: Nor>(v: &mut View<'_, N>) -> Result<u32, CheckErr>
 }
 
 // Whether blocks are shared. A volume that may not be written is refused, and one whose shared blocks don't fit over.
-fn judge<N: Nor>(v: &mut View<'_, N>, marks: &mut [u8]) -> Result<bool, CheckErr>
+fn judge<N: Nor>(v: &mut View<'_, N>, marks: &mut [u8], own: bool) -> Result<bool, CheckErr>
     requires room { check_need v.old.geometry ≤ length marks.old }
+    requires owned { N.tells v.old.nor.now → OwnIf own v.old.geometry (N.bytes v.old.nor.now) }
     ensures { Judges v.old v.new result }
 {
     if let Err(why) = v.geometry.writable() {
         return Err(CheckErr::Wrong(why));
     }
-    match judge_parting(v, marks)? {
+    match judge_parting(v, marks, own)? {
         Parting::None => Ok(false),
         Parting::Fits => Ok(true),
         Parting::Over { blocks } => Err(CheckErr::Mixed { blocks }),
@@ -84,14 +86,15 @@ fn part_and_clear<N: Nor>(v: &mut View<'_, N>, shares: bool, free: u32) -> Resul
 // Checks a mounted volume: the stages first; then the shared blocks are parted, where there are some; and then, where fewer than two blocks
 // are free, blocks are cleaned until two are free or none that is worth cleaning can be cleaned any more.
 #[tactic(auto, using(flash_view::proofs::Looking::same_then))]
-fn check_pages<N: Nor>(v: &mut View<'_, N>, marks: &mut [u8]) -> Result<Report, CheckErr>
+fn check_pages<N: Nor>(v: &mut View<'_, N>, marks: &mut [u8], own: bool) -> Result<Report, CheckErr>
     requires room { check_need v.old.geometry ≤ length marks.old }
     requires magics { N.tells v.old.nor.now → HasMagics v.old.geometry (N.bytes v.old.nor.now) }
+    requires owned { N.tells v.old.nor.now → OwnIf own v.old.geometry (N.bytes v.old.nor.now) }
     ensures same { IsSameView v.old v.new }
     ensures checks { ChecksVolume N.NorState v.old.geometry v.old.nor.now v.new.nor.now result }
 {
-    let shares = judge(v, marks)?;
-    let report = check_stages(v, marks)?;
+    let shares = judge(v, marks, own)?;
+    let report = check_stages(v, marks, own)?;
     let free_blocks = part_and_clear(v, shares, report.free_blocks)?;
     Ok(Report {
         free_blocks,
@@ -114,16 +117,22 @@ fn count_again<N: Nor>(v: &mut View<'_, N>) -> Result<(), CheckErr>
     Ok(count_all(v)?)
 }
 
-/// Checks a mounted volume so, and has the table of block counts stand then, where there is room for its rows.
+/// Checks a mounted volume so, and has the table of block counts stand then, where there is room for its rows. `own` tells that this
+/// engine alone wrote the volume: then pages whose entry is 0xFFFF aren't read.
 #[tactic(auto, using(flash_view::proofs::Looking::same_then, nor_core::proofs::Cuts::read_after, nor_core::proofs::Cuts::reads_then))]
-pub(crate) fn check_view<N: Nor>(v: &mut View<'_, N>, marks: &mut [u8]) -> Result<Report, CheckErr>
+pub(crate) fn check_view<N: Nor>(
+    v: &mut View<'_, N>,
+    marks: &mut [u8],
+    own: bool,
+) -> Result<Report, CheckErr>
     requires room { check_need v.old.geometry ≤ length marks.old }
     requires magics { N.tells v.old.nor.now → HasMagics v.old.geometry (N.bytes v.old.nor.now) }
+    requires owned { N.tells v.old.nor.now → OwnIf own v.old.geometry (N.bytes v.old.nor.now) }
     ensures same { IsSameView v.old v.new }
     ensures checks { ChecksVolume N.NorState v.old.geometry v.old.nor.now v.new.nor.now result }
     ensures stands { rows_need v.old.geometry ≤ length v.new.rows.now → OnOk result (v.new.counted ≡ true) }
 {
-    let report = check_pages(v, marks)?;
+    let report = check_pages(v, marks, own)?;
     count_again(v)?;
     Ok(report)
 }

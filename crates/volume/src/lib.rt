@@ -3,8 +3,10 @@
 
 mod calls;
 mod checking;
+mod collecting;
 mod map_calls;
 mod mapping;
+mod own;
 mod saying;
 mod scrubbing;
 mod settling;

@@ -135,10 +135,11 @@ impl<'b, N: Nor> Volume<'b, N> {
         result
     }
 
-    /// Moves the least worn block in use, where three blocks are free and each of them is more worn by the limit, 1 to 32767 erase
-    /// counts: written bytes that wait are put onto the chip first, then one block is cleaned, or none. Refused are a volume that takes no
-    /// calls (`Failed`), and a device that fails: `DeviceFault`, or `Damaged` where a page reads otherwise than it was written; then the
-    /// volume takes no calls any more, if a program or an erase was asked for.
+    /// A scrub step, by a limit of 1 to 32767 erase counts: written bytes that wait are put onto the chip first. Where no block in use is at least
+    /// by the limit less worn than each free one it is `Rested`, and no more is written. Else blocks that are worth it are cleaned until three
+    /// are free, and the least worn block in use that may be moved is cleaned, and others until two are free again; or none may, and it is `NoRoom`.
+    /// Refused are a volume that takes no calls (`Failed`), and a device that fails: `DeviceFault`, or `Damaged` where a page reads otherwise than
+    /// it was written; then the volume takes no calls any more, if a program or an erase was asked for.
     pub fn scrub(&mut self, limit: u16) -> Result<Scrub, FsErr>
         requires limit { (1 ≤ limit) × (limit ≤ 32767) }
         ensures { Scrubs limit self.old self.new result }

@@ -11,6 +11,7 @@ ghost use Rattle.flash_view.specs.Table.{HasTable, rows_in};
 ghost use Rattle.fd_table.specs.Slots.{descriptors};
 ghost use Rattle.ix_map.specs.Maps.{IsMapOf};
 ghost use Rattle.vol_mount.specs.Mounts.{CountsSpoiled};
+ghost use Rattle.vol_check.specs.Owned.{OwnIf};
 ghost use Rattle.volume.specs.Checking.{ChecksVolume};
 ghost use Rattle.volume.specs.Opening.{is_open, is_mounted};
 
@@ -126,6 +127,7 @@ fn check_on<N: Nor>(
     cache: &mut [u8],
     counted: &mut bool,
     marks: &mut [u8],
+    own: bool,
 ) -> Result<Report, CheckErr>
     requires unit { N.unit nor.old ≡ g.phys }
     requires fits { g.blocks * g.block ≤ N.size nor.old }
@@ -133,6 +135,7 @@ fn check_on<N: Nor>(
     requires cache { cache_need g ≤ length cache.old }
     requires room { check_need g ≤ length marks.old }
     requires magics { N.tells nor.old → HasMagics g (N.bytes nor.old) }
+    requires owned { N.tells nor.old → OwnIf own g (N.bytes nor.old) }
     requires kept { IsKept N.NorState g nor.old cache.old }
     ensures kept { IsKept N.NorState g nor.new cache.new }
     ensures cache_size { length cache.new ≡ length cache.old }
@@ -151,7 +154,7 @@ fn check_on<N: Nor>(
         wrote: false,
         counted: false,
     };
-    let result = check_view(&mut v, marks);
+    let result = check_view(&mut v, marks, own);
     *counted = v.counted;
     result
 }
@@ -208,6 +211,7 @@ impl<'b, N: Nor> Volume<'b, N> {
     ghost use Rattle.volume.specs.Holds.{memory};
     ghost use Rattle.volume.specs.Unmounts.{UnmountsTo};
     ghost use Rattle.vol_mount.specs.Mounts.{CountsSpoiled};
+    ghost use Rattle.vol_check.specs.Owned.{OwnIf};
     ghost use Rattle.volume.specs.Checking.{ChecksVolume};
     ghost use Rattle.volume.specs.Opening.{is_mounted};
     ghost use Rattle.volume.specs.Stages.{takes_calls, has_failed};
@@ -285,14 +289,35 @@ impl<'b, N: Nor> Volume<'b, N> {
     /// without its magic is made fresh, and every entry is killed that no file needs, those of damaged files too. Out of blocks that
     /// hold pages of both kinds, as other programs make them, the index pages are moved. Where fewer than two blocks are free then, blocks
     /// are cleaned until two are, or none that is worth cleaning can be cleaned: after a cut on a volume with two free blocks there are
-    /// two. Then every descriptor is closed, and the counts of blocks are kept. Refused, with nothing written, are a volume that may not
-    /// be written (`Wrong`) and one with too few free pages for the index pages of such blocks (`Mixed`). Where the device fails, or a
-    /// page that is moved reads otherwise than it was written (`Damaged`), what was done stays, and the check can be called again. There
-    /// is no map then; the bytes that are lent for one stay lent. The check works in the bytes that are lent to it, which
-    /// `vol_mount::accept_check` takes; what they hold at first doesn't matter, and when it ends they are free.
+    /// two. Then every descriptor is closed, and the counts of blocks are kept. Refused is a volume that isn't mounted, or was checked since
+    /// (`NotMounted`): it stays as it is. Refused, with nothing written, are a volume that may not be written (`Wrong`) and one with too few
+    /// free pages for the index pages of such blocks (`Mixed`). Where the device fails, or a page that is moved reads otherwise than it was
+    /// written (`Damaged`), what was done stays, and the check can be called again. There is no map then; the bytes that are lent for one stay
+    /// lent. The check works in the bytes that are lent to it, which `vol_mount::accept_check` takes; what they hold at first doesn't matter,
+    /// and when it ends they are free.
     pub fn check(&mut self, lent: &mut [u8]) -> Result<Report, CheckErr>
+        requires room { check_need self.old.geometry ≤ length lent.old }
+        ensures checks { is_mounted self.old.stage ≡ true → ChecksVolume N.NorState self.old.geometry self.old.nor.now self.new.nor.now result }
+        ensures unmounted { is_mounted self.old.stage ≡ false → (result ≡ Err CheckErr.NotMounted) × (self.new ≡ self.old) }
+        ensures taken { OnOk result (takes_calls self.new ≡ true) }
+        ensures stage { OnErr result (self.new.stage ≡ self.old.stage) }
+        ensures counted { OnOk result (self.new.counted ≡ true) }
+        ensures closed { OnOk result (memory self.new ≡ record { slots = replicate (min 65535 (length self.old.slots.now)) None; run = None }) }
+        ensures slots { OnErr result (self.new.slots.now ≡ self.old.slots.now) }
+        ensures same { IsSameVolume self.old self.new }
+        ensures map { is_mounted self.old.stage ≡ true → GivesUpMap self.old self.new }
+    {
+        if self.stage != Stage::Mounted {
+            return Err(CheckErr::NotMounted);
+        }
+        self.check_as(lent, false)
+    }
+
+    // The check, told whether this engine alone wrote the volume.
+    pub(crate) fn check_as(&mut self, lent: &mut [u8], own: bool) -> Result<Report, CheckErr>
         requires mounted { is_mounted self.old.stage ≡ true }
         requires room { check_need self.old.geometry ≤ length lent.old }
+        requires owned { N.tells self.old.nor.now → OwnIf own self.old.geometry (N.bytes self.old.nor.now) }
         ensures checks { ChecksVolume N.NorState self.old.geometry self.old.nor.now self.new.nor.now result }
         ensures taken { OnOk result (takes_calls self.new ≡ true) }
         ensures stage { OnErr result (self.new.stage ≡ self.old.stage) }
@@ -306,7 +331,16 @@ impl<'b, N: Nor> Volume<'b, N> {
         let g = self.geometry;
         let work = &mut *self.work;
         let (work, rows) = work.split_at_mut(g.scratch_need() as usize);
-        let report = check_on(g, self.nor, work, rows, self.cache, &mut self.counted, lent)?;
+        let report = check_on(
+            g,
+            self.nor,
+            work,
+            rows,
+            self.cache,
+            &mut self.counted,
+            lent,
+            own,
+        )?;
         close_all(self.slots);
         self.held = Held::none();
         self.stage = Stage::Checked;
@@ -316,9 +350,29 @@ impl<'b, N: Nor> Volume<'b, N> {
     /// Takes a mounted volume as checked, without a check: for a caller who knows that the image is tidy, as it is after an unmount whose
     /// `last` was Ok, if nothing else has written since. It reads the lookup pages and the headers of pages in use, and writes nothing.
     /// Then the volume stands as after a check: it takes calls, every descriptor is closed, and the counts of blocks are kept. Refused
-    /// is a volume that may not be written (`Wrong`). Whoever isn't sure checks.
-    #[tactic(auto, using(room_laws::proofs::Sorted::tidy_tells_free))]
+    /// are a volume that isn't mounted, or was checked since (`NotMounted`), which stays as it is, and one that may not be written
+    /// (`Wrong`). Whoever isn't sure checks.
     pub fn resume(&mut self) -> Result<(), CheckErr>
+        requires tidy { is_mounted self.old.stage ≡ true → N.tells self.old.nor.now → IsTidy self.old.geometry (N.bytes self.old.nor.now) }
+        ensures resumes { is_mounted self.old.stage ≡ true → Resumes N.NorState self.old.geometry self.old.nor.now self.new.nor.now result }
+        ensures unmounted { is_mounted self.old.stage ≡ false → (result ≡ Err CheckErr.NotMounted) × (self.new ≡ self.old) }
+        ensures taken { OnOk result (takes_calls self.new ≡ true) }
+        ensures stage { OnErr result (self.new.stage ≡ self.old.stage) }
+        ensures counted { OnOk result (self.new.counted ≡ true) }
+        ensures closed { OnOk result (memory self.new ≡ record { slots = replicate (min 65535 (length self.old.slots.now)) None; run = None }) }
+        ensures slots { OnErr result (self.new.slots.now ≡ self.old.slots.now) }
+        ensures same { IsSameVolume self.old self.new }
+        ensures map { is_mounted self.old.stage ≡ true → GivesUpMap self.old self.new }
+    {
+        if self.stage != Stage::Mounted {
+            return Err(CheckErr::NotMounted);
+        }
+        self.take_up()
+    }
+
+    // The same of a mounted volume.
+    #[tactic(auto, using(room_laws::proofs::Sorted::tidy_tells_free))]
+    fn take_up(&mut self) -> Result<(), CheckErr>
         requires mounted { is_mounted self.old.stage ≡ true }
         requires tidy { N.tells self.old.nor.now → IsTidy self.old.geometry (N.bytes self.old.nor.now) }
         ensures resumes { Resumes N.NorState self.old.geometry self.old.nor.now self.new.nor.now result }

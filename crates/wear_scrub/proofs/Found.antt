@@ -1,10 +1,10 @@
 -- The ages of all blocks, one block after the other, and what a scrub step does by them.
-use Rattle.std.proofs.Common.{◌≡◌, ℕ, zero, suc, ◌+◌, ◌-◌, ◌<◌, ◌≤◌, ⊎_elim, List, Bool, true, false, not, nat_lt, nat_le, ◌==◌, ◌&&◌, length, max, map, refl, ◌∙◌, ap, arith, if◌then◌else◌}
-use Rattle.std.specs.Prelude.{Option, Some, None, filter}
+use Rattle.std.proofs.Common.{◌≡◌, ℕ, zero, suc, ◌+◌, ◌-◌, ◌<◌, ◌≤◌, ⊎_elim, inl, List, Bool, true, false, not, nat_lt, nat_le, ◌==◌, ◌&&◌, length, max, map, refl, ◌∙◌, ap, arith, if◌then◌else◌}
+use Rattle.std.specs.Prelude.{Option, Some, None, filter, option_and_then}
 use Rattle.std.specs.Option.{option_map}
 use Rattle.std.specs.List.{range_with_len, fold}
 use Rattle.std.proofs.Math.Nat.{sub-zero}
-use Rattle.std.proofs.lemmas.Bool.{cases_lt, lt-ltb, le-ltb, leb-true, leb-false, lt-leb, le-leb}
+use Rattle.std.proofs.lemmas.Bool.{cases_lt, ltb-true, ltb-false, leb-true, leb-false, lt-leb, le-leb}
 use Rattle.geometry.specs.declared.geometry.Geometry.{Geometry}
 use Rattle.geometry.specs.Numbers.{entries}
 use Rattle.image_model.specs.Places.{next_count}
@@ -19,9 +19,10 @@ use Rattle.room_laws.proofs.Stops.{reserve_fits_each}
 use Rattle.block_gc.proofs.Rooms.{block_is, count_more, count_end}
 use Rattle.wear_scrub.specs.declared.ages.Aged.{Aged}
 use Rattle.wear_scrub.specs.declared.ages.Ages.{Ages}
-use Rattle.wear_scrub.specs.declared.scrubs.Scrub.TheVariants.{NoRoom, Rested, Moved}
-use Rattle.wear_scrub.specs.Ages.{age_by, older_of, with_one, ages_by, IsOldest, IsFirst, AreAges, IsBelow, oldest_or_rest, pick_of}
-use Rattle.wear_scrub.specs.Scrubs.{IsInside, IsPick}
+use Rattle.wear_scrub.specs.declared.scrubs.Scrub.TheVariants.{Rested}
+use Rattle.wear_scrub.specs.Ages.{age_by, older_of, with_one, ages_by, IsOldest, IsFirst, AreAges, IsBelow, older_by, level_by, moved_or_none, pick_of}
+use Rattle.wear_scrub.specs.Victims.{IsOldestMay, IsOldestOf}
+use Rattle.wear_scrub.specs.Scrubs.{IsInside, IsLevel, IfLevel, IsPick}
 
 -- ---- a block more
 
@@ -171,48 +172,70 @@ all_move g image tidy two = same 0 g.blocks (λ q low. omega (arith, low))
 oldest_is : (g : Geometry) (image : List ℕ) (found : Ages) → IsTidy g image → HasReserve g image → AreAges g image found → oldest_of g image (movable g image) ≡ option_map (λ (aged : Aged). aged.block) found.oldest
 oldest_is g image found tidy two are = rw (all_move g image tidy two) (first_found g image found.oldest are.oldest)
 
--- what is picked by the ages of all blocks is the pick
-pub picked : (g : Geometry) (image : List ℕ) (found : Ages) (limit : ℕ) → IsTidy g image → AreAges g image found → IsPick g image limit (pick_of found limit)
-unfolding scrub_victim
-picked g image found limit tidy are = ⊎_elim
-    (λ (few : found.free < 3). rw (lt-ltb found.free 3 few) (are.free, few))
-    (λ (three : 3 ≤ found.free). rw (le-ltb found.free 3 three) (rests found.oldest refl (omega (arith, three, are.free))))
-    (cases_lt found.free 3)
+-- by the oldest block, whether each block in use is less than so many counts older than the free ones
+pub level_told : (g : Geometry) (image : List ℕ) (found : Ages) (limit : ℕ) → AreAges g image found → IfLevel g image limit (level_by found limit)
+level_told g image found limit are = by found.oldest are.oldest
   where
-    rests : (oldest : Option Aged) → found.oldest ≡ oldest → 3 ≤ free_blocks g image → IsPick g image limit (oldest_or_rest (found.young + limit) oldest)
-    rests None none three =
-        let victim = oldest_is g image found tidy (omega (arith, three)) are in
-        (three, rw (victim, none) refl)
-    rests (Some aged) some three = by (nat_le (found.young + limit) aged.age) refl
+    by : (oldest : Option Aged) → IsFirst g image g.blocks oldest → IfLevel g image limit (older_by (found.young + limit) oldest)
+    by None none = λ b low used. absurd (let free : is_free_block g image b ≡ true = none b low in cc)
+    by (Some aged) is = turn (nat_lt aged.age (found.young + limit)) refl
       where
-        victim : oldest_of g image (movable g image) ≡ Some aged.block
-        victim = oldest_is g image found tidy (omega (arith, three)) are ∙ ap (λ (o : Option Aged). option_map (λ (a : Aged). a.block) o) some
+        turn : (b : Bool) → nat_lt aged.age (found.young + limit) ≡ b → IfLevel g image limit b
+        turn true e =
+            let less : aged.age < found.young + limit = ltb-true _ _ e in
+            λ b low used. let m = is.most b low used in omega (arith, m, less, are.young_is)
+        turn false e =
+            let more : found.young + limit ≤ aged.age = ltb-false _ _ e in
+            λ level. let young_one = level aged.block is.below is.used in absurd (omega (arith, is.age, young_one, more, are.young_is))
 
-        age : aged.age ≡ age_of g image aged.block
-        age = oldest.age
-          where
-            oldest : IsOldest g image g.blocks aged
-            oldest = rw some at are.oldest
+-- where that is so and two blocks are free there is no victim
+level_is : (g : Geometry) (image : List ℕ) (found : Ages) (limit : ℕ) → IsTidy g image → HasReserve g image → AreAges g image found → level_by found limit ≡ true → scrub_victim g image limit ≡ None
+unfolding scrub_victim
+level_is g image found limit tidy two are level = by found.oldest refl level
+  where
+    by : (oldest : Option Aged) → found.oldest ≡ oldest → older_by (found.young + limit) oldest ≡ true →
+        option_and_then (λ block. if nat_le (young g image + limit) (age_of g image block) then Some block else None) (oldest_of g image (movable g image)) ≡ None
+    by None none is = let victim = oldest_is g image found tidy two are in rw (victim, none) refl
+    by (Some aged) some is =
+        let victim : oldest_of g image (movable g image) ≡ Some aged.block = oldest_is g image found tidy two are ∙ ap (λ (o : Option Aged). option_map (λ (a : Aged). a.block) o) some in
+        let first : IsOldest g image g.blocks aged = rw some at are.oldest in
+        let less : aged.age < found.young + limit = ltb-true _ _ is in
+        let tested : nat_le (young g image + limit) (age_of g image aged.block) ≡ false = lt-leb _ _ (omega (arith, less, first.age, are.young_is)) in
+        rw (victim, tested) refl
 
-        tested : (b : Bool) → nat_le (found.young + limit) aged.age ≡ b → nat_le (young g image + limit) (age_of g image aged.block) ≡ b
-        tested b e = rw (are.young_is, age) at e
+-- where three are free the oldest block that may be moved is the victim
+three_is : (g : Geometry) (image : List ℕ) (limit : ℕ) (aged : Aged) → IsTidy g image → 3 ≤ free_blocks g image → IsOldestMay g image (young g image + limit) g.blocks aged → scrub_victim g image limit ≡ Some aged.block
+unfolding scrub_victim
+three_is g image limit aged tidy three is =
+    let first : IsOldest g image g.blocks aged = record { below = is.below; used = is.used; age = is.age; most = λ b low used. is.most b low used (inl three); first = λ b low used. is.first b low used (inl three) } in
+    let victim : oldest_of g image (movable g image) ≡ Some aged.block = ap (λ (l : List ℕ). oldest_of g image l) (all_move g image tidy (omega (arith, three))) ∙ first_found g image (Some aged) first in
+    let tested : nat_le (young g image + limit) (age_of g image aged.block) ≡ true = le-leb _ _ (omega (arith, is.old, is.age)) in
+    rw (victim, tested) refl
 
-        by : (b : Bool) → nat_le (found.young + limit) aged.age ≡ b → IsPick g image limit (if b then Moved aged.block aged.age else Rested)
-        by true e = (three, rw (victim, tested true e) refl, age)
-        by false e = (three, rw (victim, tested false e) refl)
+-- what is picked by the ages of all blocks and the oldest that may be moved is the pick
+pub picked : (g : Geometry) (image : List ℕ) (found : Ages) (limit : ℕ) (oldest : Option Aged) → IsTidy g image → AreAges g image found → IsOldestOf g image (found.young + limit) g.blocks oldest →
+    IsPick g image limit (pick_of found limit oldest)
+picked g image found limit oldest tidy are is = by (level_by found limit) refl (level_told g image found limit are)
+  where
+    either : (o : Option Aged) → IsOldestOf g image (young g image + limit) g.blocks o → (IsLevel g image limit → ⊥) → IsPick g image limit (moved_or_none found.free o)
+    either None none old = (are.free, old, none)
+    either (Some aged) victim old = (
+      record { below = victim.below; used = victim.used; age = victim.age; old = victim.old; may = victim.may; most = victim.most; first = victim.first },
+      λ three. three_is g image limit aged tidy three victim,
+    )
+
+    by : (b : Bool) → level_by found limit ≡ b → IfLevel g image limit b → IsPick g image limit (if b then Rested else moved_or_none found.free oldest)
+    by true e level = (level, λ two. level_is g image found limit tidy two are e)
+    by false e old = either oldest (rw are.young_is at is) old
 
 -- a block that is moved is inside, where the oldest is
-pub inside : (n : ℕ) (found : Ages) (limit : ℕ) → IsBelow n found.oldest → IsInside n (pick_of found limit)
-inside n found limit low = by (nat_lt found.free 3)
+pub inside : (n : ℕ) (found : Ages) (limit : ℕ) (oldest : Option Aged) → IsBelow n oldest → IsInside n (pick_of found limit oldest)
+inside n found limit oldest low = by (level_by found limit)
   where
-    rests : (oldest : Option Aged) → IsBelow n oldest → IsInside n (oldest_or_rest (found.young + limit) oldest)
-    rests None h = tt
-    rests (Some aged) h = either (nat_le (found.young + limit) aged.age)
-      where
-        either : (b : Bool) → IsInside n (if b then Moved aged.block aged.age else Rested)
-        either true = h
-        either false = tt
+    either : (o : Option Aged) → IsBelow n o → IsInside n (moved_or_none found.free o)
+    either None h = tt
+    either (Some aged) h = h
 
-    by : (b : Bool) → IsInside n (if b then NoRoom found.free else oldest_or_rest (found.young + limit) found.oldest)
+    by : (b : Bool) → IsInside n (if b then Rested else moved_or_none found.free oldest)
     by true = tt
-    by false = rests found.oldest low
+    by false = either oldest low

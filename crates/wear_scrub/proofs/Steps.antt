@@ -1,89 +1,130 @@
 -- A scrub step, over plain images.
-use Rattle.std.proofs.Common.{◌≡◌, ℕ, ◌+◌, ◌<◌, ⊎_elim, inl, inr, List, [], ◌∷◌, Bool, true, false, not, refl, arith, if◌then◌else◌}
-use Rattle.std.specs.Prelude.{Option, Some, None, filter, find, option_and_then, nat_le, ◌&&◌}
-use Rattle.std.specs.List.{range_with_len, list_all}
-use Rattle.std.proofs.lemmas.Bool.{cases_Bool, and_parts}
-use Rattle.std.proofs.lemmas.Option.{same_Some}
+use Rattle.std.proofs.Common.{◌≡◌, ℕ, ◌≤◌, ⊎_elim, inr, List, [], ◌∷◌, Bool, true, false, refl, sym, ◌∙◌, subst, arith}
+use Rattle.std.specs.Prelude.{Option, Some, None}
 use Rattle.geometry.specs.declared.geometry.Geometry.{Geometry}
-use Rattle.geometry.specs.Numbers.{entries}
 use Rattle.image_model.specs.Places.{IsImage}
-use Rattle.image_model.specs.Tidy.{IsTidy, is_free_block}
-use Rattle.image_model.specs.Collect.{is_fitting, age_of}
-use Rattle.image_model.specs.Wear.{young, movable, oldest_of, scrub_victim}
-use Rattle.flash_view.specs.Steps.{Begins}
+use Rattle.image_model.specs.Tidy.{IsTidy, HasReserve}
+use Rattle.image_model.specs.Collect.{chosen_block}
+use Rattle.image_laws.proofs.Sounding.{keeps-on}
+use Rattle.flash_view.specs.Steps.{Begins, Finishes}
 use Rattle.room_laws.specs.Recovery.{MayCut}
-use Rattle.room_laws.specs.Counting.{block_counts, counts_of}
 use Rattle.room_laws.proofs.Staying.{reserve_mends}
-use Rattle.room_laws.proofs.Stops.{reserve_can_clean}
-use Rattle.room_laws.proofs.Tallies.{tidy_counts_tell}
-use Rattle.room_laws.proofs.ThreesFree.{three_leave_two}
-use Rattle.block_gc.specs.Cleanings.{CanCleanBlock, CleanedBlock, cleaning_block}
+use Rattle.room_laws.proofs.Stops.{reserve_can_clean, reserve_fits_each, stopped_has_reserve}
+use Rattle.block_gc.specs.Cleanings.{CanCleanBlock}
+use Rattle.block_gc.specs.Spares.{MayMove}
+use Rattle.block_gc.specs.Programs.{cost_of}
+use Rattle.block_gc.specs.RoomMade.{SweptAlong, FreedUp, FreeStops, freeing}
+use Rattle.block_gc.specs.Moved.{MovedBlock, moving_block}
+use Rattle.block_gc.proofs.Cleanings.{both_keep}
 use Rattle.block_gc.proofs.Replacing.{tidy_keeps}
-use Rattle.wear_scrub.specs.declared.scrubs.Scrub.TheVariants.{Moved}
-use Rattle.wear_scrub.specs.Scrubs.{IsPick, Moves, ScrubCut, scrubbing}
+use Rattle.wear_scrub.specs.declared.scrubs.Scrub.{Scrub}
+use Rattle.wear_scrub.specs.declared.scrubs.Scrub.TheVariants.{NoRoom, Rested, Moved}
+use Rattle.wear_scrub.specs.Scrubs.{IsLevel, HasNoVictim, IsPick, Moves, PickDone, StepMade, ScrubCut, ScrubDone, IsAtRest, moving_picked, scrubbing}
 use Rattle.trim_laws.proofs.NextCounts.{next_rises}
-
--- ---- the victim
-
--- what is found among the numbers that pass a test passes it
-find_passes : (t p : ℕ → Bool) (xs : List ℕ) (k : ℕ) → find p (filter t xs) ≡ Some k → t k ≡ true
-find_passes t p [] k found = absurd (cc)
-find_passes t p (x ∷ xs) k found = ⊎_elim
-    (λ (passes : t x ≡ true). let first = rw passes at found in ⊎_elim
-    (λ (here : p x ≡ true). let is = rw here at first in let same : x ≡ k = same_Some x k is in rw same at passes)
-    (λ (on : p x ≡ false). find_passes t p xs k (rw on at first))
-    (cases_Bool (p x)))
-    (λ (fails : t x ≡ false). find_passes t p xs k (rw fails at found))
-    (cases_Bool (t x))
-
--- it is in use and fits
-victim_moves : (g : Geometry) (image : List ℕ) (limit block : ℕ) → scrub_victim g image limit ≡ Some block → (not (is_free_block g image block) && is_fitting g image block) ≡ true
-unfolding scrub_victim movable
-victim_moves g image limit block is = by (oldest_of g image (movable g image)) refl is
-  where
-    by : (o : Option ℕ) → oldest_of g image (movable g image) ≡ o → option_and_then (λ b. if nat_le (young g image + limit) (age_of g image b) then Some b else None) o ≡ Some block → (not (is_free_block g image block) && is_fitting g image block) ≡ true
-    by None e h = absurd (cc)
-    by (Some b) e h = either (nat_le (young g image + limit) (age_of g image b)) h
-      where
-        either : (old : Bool) → (if old then Some b else None) ≡ Some block → (not (is_free_block g image block) && is_fitting g image block) ≡ true
-        either true same =
-            let here : b ≡ block = same_Some b block same in
-            rw here at (find_passes (λ q. not (is_free_block g image q) && is_fitting g image q) (λ q. list_all (λ other. nat_le (age_of g image other) (age_of g image q)) (movable g image)) (range_with_len 0 g.blocks) b e)
-        either false same = absurd (cc)
-
-not_is : (b : Bool) → not b ≡ true → b ≡ false
-not_is true e = absurd (cc)
-not_is false e = refl
-
-pub can_clean : (g : Geometry) (image : List ℕ) (limit block : ℕ) → IsTidy g image → scrub_victim g image limit ≡ Some block → CanCleanBlock g image block
-can_clean g image limit block tidy is =
-    let both = and_parts _ _ (victim_moves g image limit block is) in
-    record { tidy = tidy; used = not_is (is_free_block g image block) both.0; fits = both.1 }
-
--- ---- the step
 
 -- nothing is written
 pub rests : (g : Geometry) (image : List ℕ) → IsTidy g image → ScrubCut g image image
 rests g image tidy = record { keeps = tidy_keeps g image tidy; mends = λ two. reserve_mends g image two }
 
--- the victim is cleaned
-pub moves : (g : Geometry) (image : List ℕ) (limit block age : ℕ) → IsImage g image → IsTidy g image → block < g.blocks → IsPick g image limit (Moved block age) → Begins g image (cleaning_block block) (scrubbing limit)
-moves g image limit block age is tidy low pick =
-    let can = can_clean g image limit block tidy pick.1 in
-    let three = pick.0 in
-    let may : MayCut g image block = record { can = reserve_can_clean g image is tidy (omega (arith, three)); within = low; used = can.used; reserve = λ h. omega (arith, three); gains = inr (inl three) } in
-    record { needs = can; cut = λ c cut. record { keeps = cut.keeps; mends = λ two. cut.mends may } }
+-- ---- the block that is picked is moved
 
--- and was
-pub moved : (g : Geometry) (was now : List ℕ) (limit block age : ℕ) → IsPick g was limit (Moved block age) → CleanedBlock g block was now → Moves g block was now
-moved g was now limit block age pick done =
-    let cleaned = done.cleaned in
-    let three = pick.0 in
-    let before = (tidy_counts_tell g was cleaned.before).unused_blocks in
-    let after = (tidy_counts_tell g now cleaned.after).unused_blocks in
-    let two = three_leave_two (entries g) (counts_of g was) (counts_of g now) (block_counts g was block) cleaned.cleaned (omega (arith, before, three)) in
-    record {
-      cleaned = done;
-      reserve = omega (arith, two, after);
-      next = next_rises g was now block cleaned.before.magic cleaned.after.magic cleaned.within done.count done.others;
-    }
+-- two blocks are free where one may be moved
+may_two : (g : Geometry) (image : List ℕ) (block : ℕ) → MayMove g image block → HasReserve g image
+may_two g image block may = ⊎_elim (λ three. omega (arith, three)) (λ two. two.0) may
+
+module _ (g : Geometry) (image : List ℕ) (limit block age : ℕ) (is : IsImage g image) (tidy : IsTidy g image) (pick : IsPick g image limit (Moved block age)) where
+  two : HasReserve g image
+  two = may_two g image block pick.0.may
+
+  can_clean : CanCleanBlock g image block
+  can_clean = record { tidy = tidy; used = pick.0.used; fits = reserve_fits_each g image block tidy two pick.0.below }
+
+  may_cut : MayCut g image block
+  may_cut = record { can = reserve_can_clean g image is tidy two; within = pick.0.below; used = pick.0.used; reserve = λ held. two; gains = inr pick.0.may }
+
+  pub move_begins : {x y : ℕ} → Begins g image (moving_block block x y) (moving_picked limit x y)
+  move_begins = record { needs = can_clean; cut = λ c cut. record { keeps = cut.keeps; mends = λ reserve. cut.mends may_cut } }
+
+  -- two blocks are free then
+  is_met : {x y : ℕ} (met : Bool) (now : List ℕ) → MovedBlock g block met x y image now → MovedBlock g block true x y image now
+  is_met true now done = done
+  is_met false now done = let reserve = done.reserve may_cut in let few = done.freed.stops.0 in absurd (omega (arith, reserve, few))
+
+  moves : {x y : ℕ} (now : List ℕ) → MovedBlock g block true x y image now → Moves g block x y image now
+  moves now done =
+      let cleaned = done.cleaned.cleaned in
+      record {
+        moved = done;
+        reserve = done.reserve may_cut;
+        next = next_rises g image done.middle block cleaned.before.magic cleaned.after.magic cleaned.within done.cleaned.count done.cleaned.others;
+        few = omega (arith, done.few, done.freed.cleanings.few);
+      }
+
+  pub was_moved : {x y : ℕ} (met : Bool) (now : List ℕ) → MovedBlock g block met x y image now → PickDone g limit x y image now (Moved block age)
+  was_moved met now done = (pick, moves now (is_met met now done))
+
+-- ---- after blocks that are worth it were cleaned
+
+module _ (g : Geometry) (limit : ℕ) (a : List ℕ) (is : IsImage g a) (tidy : IsTidy g a) where
+  pub step_begins : {x y z : ℕ} → Begins g a (freeing 3 x y) (scrubbing limit x z)
+  step_begins = record { needs = tidy; cut = λ c cut. record { keeps = cut.keeps; mends = λ reserve. cut.mends (reserve_can_clean g a is tidy reserve) } }
+
+  -- two blocks are free where they were
+  kept : {x y : ℕ} (met : Bool) (b : List ℕ) → FreedUp g 3 met x y a b → HasReserve g a → HasReserve g b
+  kept met b freed reserve = by met freed.stops
+    where
+      by : (m : Bool) → FreeStops g 3 m a b → HasReserve g b
+      by true stops = omega (arith, stops)
+      by false stops = stopped_has_reserve g b (freed.cleanings.again (reserve_can_clean g a is tidy reserve)) stops.1
+
+  pub step_ends : {x y z : ℕ} (met : Bool) (b : List ℕ) → (IsLevel g a limit → ⊥) → FreedUp g 3 met x y a b → Finishes g a b (moving_picked limit y z) (scrubbing limit x z)
+  step_ends {x} {y} {z} met b old freed = record {
+    needs = (freed.cleanings.image, freed.cleanings.tidy);
+    cut = λ c cut. record {
+      keeps = keeps-on g a b c (both_keep g a b tidy freed.cleanings.tidy freed.cleanings.table) cut.keeps;
+      mends = λ reserve. cut.mends (kept met b freed reserve);
+    };
+    done = λ c scrub done. inr (old, record { met = met; middle = b; between = y; freed = freed; reserve = kept met b freed; done = done });
+  }
+
+-- ---- nothing is to move
+
+-- where no block is worth cleaning none was cleaned
+none_swept : (g : Geometry) (a b : List ℕ) (through : List (List ℕ)) → chosen_block g a ≡ None → SweptAlong g a through b → through ≡ []
+unfolding SweptAlong
+none_swept g a b [] none steps = refl
+none_swept g a b (before ∷ []) none steps =
+    let swept = steps.1.swept in
+    let chosen : chosen_block g a ≡ Some swept.block = subst (λ (l : List ℕ). chosen_block g l ≡ Some swept.block) steps.0 swept.chosen in
+    absurd (let bad : ◌≡◌ {A = Option ℕ} None (Some swept.block) = sym none ∙ chosen in cc)
+none_swept g a b (before ∷ more ∷ rest) none steps = absurd (let bad : ◌≡◌ {A = List (List ℕ)} (more ∷ rest) [] = none_swept g a before (more ∷ rest) none steps.0 in cc)
+
+along_none : (g : Geometry) (a b : List ℕ) (through : List (List ℕ)) → through ≡ [] → SweptAlong g a through b → b ≡ a
+unfolding SweptAlong
+along_none g a b [] is steps = steps
+along_none g a b (x ∷ more) is steps = absurd (cc)
+
+costs_none : (g : Geometry) (through : List (List ℕ)) → through ≡ [] → cost_of g through ≡ 0
+unfolding cost_of
+costs_none g [] is = refl
+costs_none g (x ∷ more) is = absurd (cc)
+
+-- where there is no victim none was moved
+none_picked : (g : Geometry) (limit before after : ℕ) (was now : List ℕ) (scrub : Scrub) → HasNoVictim g was limit → PickDone g limit before after was now scrub → after ≤ before
+none_picked g limit before after was now (NoRoom free) isnt done = done.2
+none_picked g limit before after was now Rested isnt done = done.2
+none_picked g limit before after was now (Moved block age) isnt done =
+    let is = done.0.0 in
+    absurd (isnt block is.below is.used (omega (arith, is.age, is.old)) is.may)
+
+-- nothing is programmed or erased then
+pub rest_is_quiet : (g : Geometry) (limit before after : ℕ) (was now : List ℕ) (scrub : Scrub) → IsAtRest g was limit → ScrubDone g limit before after was now scrub → after ≤ before
+rest_is_quiet g limit before after was now scrub rest done = ⊎_elim (λ none. none.3) (λ made. ⊎_elim (λ level. absurd (made.0 level)) (λ none. quiet made.1 none.0 none.1) rest) done
+  where
+    quiet : StepMade g limit before after was now scrub → chosen_block g was ≡ None → HasNoVictim g was limit → after ≤ before
+    quiet made none isnt =
+        let swept = made.freed.cleanings.swept in
+        let empty = none_swept g was made.middle swept.through none swept.steps in
+        let same : made.middle ≡ was = along_none g was made.middle swept.through empty swept.steps in
+        let last = none_picked g limit made.between after made.middle now scrub (subst (λ (l : List ℕ). HasNoVictim g l limit) (sym same) isnt) made.done in
+        omega (arith, last, made.freed.cleanings.few, costs_none g swept.through empty)

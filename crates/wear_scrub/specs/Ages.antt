@@ -53,11 +53,19 @@ abbrev pub IsBelow : ℕ → Option Aged → Type 0
 IsBelow n None = Unit {0}
 IsBelow n (Some aged) = aged.block < n
 
--- the oldest block in use is moved, where it is so many counts older than the free ones
-abbrev pub oldest_or_rest : (least : ℕ) → Option Aged → Scrub
-oldest_or_rest least None = Rested
-oldest_or_rest least (Some aged) = if nat_le least aged.age then Moved aged.block aged.age else Rested
+-- no block in use is so much older than each free one, by the oldest
+abbrev pub older_by : (least : ℕ) → Option Aged → Bool
+older_by least None = true
+older_by least (Some aged) = nat_lt aged.age least
 
--- what a scrub step with a limit does, by the ages of all blocks
-abbrev pub pick_of : Ages → (limit : ℕ) → Scrub
-pick_of found limit = if nat_lt found.free 3 then NoRoom found.free else oldest_or_rest (found.young + limit) found.oldest
+abbrev pub level_by : Ages → (limit : ℕ) → Bool
+level_by found limit = older_by (found.young + limit) found.oldest
+
+-- the oldest block that may be moved is, or none is
+abbrev pub moved_or_none : (free : ℕ) → Option Aged → Scrub
+moved_or_none free None = NoRoom free
+moved_or_none free (Some aged) = Moved aged.block aged.age
+
+-- what a scrub step with a limit does, by the ages of all blocks and the oldest one that may be moved
+abbrev pub pick_of : Ages → (limit : ℕ) → Option Aged → Scrub
+pick_of found limit oldest = if level_by found limit then Rested else moved_or_none found.free oldest

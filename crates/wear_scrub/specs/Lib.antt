@@ -1,2 +1,3 @@
 pub mod Ages
 pub mod Scrubs
+pub mod Victims

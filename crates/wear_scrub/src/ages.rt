@@ -29,7 +29,7 @@ pub(crate) struct Ages {
 }
 
 // The age of a block by its erase count and the next one.
-fn age_of(erases: u16, next: u16) -> u16
+pub(crate) fn age_of(erases: u16, next: u16) -> u16
     ensures { result ≡ age_by erases next }
 {
     ((u32::from(next) + 0x8000).saturating_sub(u32::from(erases)) % 0x8000) as u16

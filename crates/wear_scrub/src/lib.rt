@@ -2,6 +2,7 @@
 #![tactic(auto)]
 
 mod ages;
+mod oldest;
 mod scrubs;
 
 pub use scrubs::{Scrub, scrub_pick, scrub_step};

@@ -4,6 +4,7 @@
 
 mod bench;
 mod chip_rows;
+mod collecting;
 mod commands;
 mod descriptors;
 mod images;

@@ -49,6 +49,15 @@ pub(crate) enum Step<'t> {
     /// So many index pages.
     HasIndexPages(u32),
     Collects(Result<(), FsErr>),
+    /// A step of a collection.
+    CollectsStep(Result<bool, FsErr>),
+    /// Room for a file of so many bytes.
+    CollectsFor(u32, Result<(), FsErr>),
+    /// A check, and a start without one, is refused.
+    ChecksNot(CheckErr),
+    ResumesNot(CheckErr),
+    /// A mounted volume is taken as checked.
+    Resumes,
     Settles(Result<(), FsErr>),
     HasSpace(Result<Space, FsErr>),
     /// A scrub with this limit, 1 to 32767.
@@ -204,6 +213,11 @@ fn is_so(volume: &mut Volume<'_, MemBoard>, step: &Step<'_>) -> bool {
         Step::HasSpace(told) => volume.space() == told,
         Step::Collects(told) => volume.gc() == told,
         Step::Settles(told) => volume.settle() == told,
+        Step::CollectsStep(told) => volume.gc_step() == told,
+        Step::CollectsFor(bytes, told) => volume.gc_for(bytes) == told,
+        Step::ChecksNot(why) => check(volume) == Err(why),
+        Step::ResumesNot(why) => volume.resume() == Err(why),
+        Step::Resumes => volume.resume().is_ok(),
         Step::Scrubs(limit, told) => scrubs(volume, limit, told),
         Step::HasErases(counts) => has_erases(volume.nor().image(), counts),
         Step::Holds(image) => volume.nor().image() == image,

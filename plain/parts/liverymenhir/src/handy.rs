@@ -47,6 +47,7 @@ impl Needs {
 impl core::fmt::Display for CheckErr {
     fn fmt(&self, f: &mut core::fmt::Formatter<'_>) -> core::fmt::Result {
         match self {
+            CheckErr::NotMounted => f.write_str("the volume isn't mounted, or was checked since"),
             CheckErr::Wrong(why) => why.fmt(f),
             CheckErr::Mixed { blocks } => write!(f, "{blocks} blocks hold pages of both kinds, and too few places are free to part them"),
             CheckErr::DeviceFault => f.write_str("the device failed"),

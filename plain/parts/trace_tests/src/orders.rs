@@ -114,16 +114,10 @@ fn bytes_wait_until_the_next_call() {
 
 #[test]
 fn a_block_is_erased_only_once_its_pages_are_elsewhere() {
-    // each data page is appended by a call of its own, so that most pages of block 0 are old header pages
-    let a = format!(
-        "create a\nopen a 52\n{}fill 1 96 41\nclose 1\n",
-        "fill 1 251 41\n".repeat(4)
-    );
-    let b = format!(
-        "create b\nopen b 52\n{}fill 1 147 42\nclose 1\n",
-        "fill 1 251 42\n".repeat(3)
-    );
-    let (trial, told) = run_over(&image_of(&format!("{a}{b}remove a\n")), "gc\n");
+    // nine deleted header pages beside that of b, and in the next block five deleted data pages beside four of b
+    let two = "create a\nopen a 20\nfill 1 1100 41\nclose 1\ncreate b\nopen b 20\nfill 1 900 42\nclose 1\nremove a\n";
+    let gone = "create c\nremove c\n".repeat(6);
+    let (trial, told) = run_over(&image_of(&(gone + two)), "gc\n");
     // the header page of b moves out of block 0 by four programs, and two kill the old one
     assert_eq!(told.events[6], Noted::Erase(0));
     assert_eq!(trial.judge(&told.events), legal(told.events.len(), 1));
@@ -148,6 +142,7 @@ fn of_two_header_pages_the_first_one_counts() {
     let g = small();
     let first = formatted(&g);
     let (_, told) = run_over(&first, FILE);
+    // (four programs and two replies, four programs for each data page, and four for the new header page)
     let (trial, told) = run_over(&image_after(&g, &first, &told.events[..22]), "info\n");
     assert_eq!(told.said, b"ok files 1 index 1 data 0 usable 210\n");
     assert_eq!(trial.judge(&told.events), legal(told.events.len(), 1));

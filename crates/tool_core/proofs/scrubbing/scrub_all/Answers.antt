@@ -1,4 +1,4 @@
-use Rattle.std.proofs.Common.{◌≡◌, true, false, arith, rules, Err}
+use Rattle.std.proofs.Common.{◌≡◌, true, false, sym, ◌∙◌, arith, rules, Err}
 use Rattle.volume.proofs.Staying.{same_then, same_none}
 use Rattle.volume.specs.Holds.{memory}
 use Rattle.tool_core.proofs.ScrubTurns.{makes_none, makes_more, makes_rest, makes_fails, makes_all}
@@ -16,18 +16,18 @@ steps-init g c = record {
 pub steps-preserved : goal.steps-preserved
 steps-preserved g c = record {
   same = same_then c.steps.invariant.same c.scrub_turn.ensures.same;
-  stands = c.in_ok-scrub_turn.ensures.taken;
+  stands = c.in_ok-scrub.ensures.taken;
   blocks = c.steps.invariant.blocks;
   few = omega (arith, c.steps.invariant.few);
-  makes = λ slots closed. makes_more c.steps.moved c.steps.volume.geometry c.steps.invariant.same.geometry (c.steps.invariant.makes slots closed) (λ still. rw c.if-branch.true at (c.in_ok-scrub_turn.ensures.makes slots still));
+  makes = λ slots closed. makes_more c.steps.moved c.in_ok-scrub.scrub c.steps.volume.geometry (sym c.if-has_moved.true ∙ c.has_moved.ensures) c.steps.invariant.same.geometry (c.steps.invariant.makes slots closed) (λ still. c.in_ok-scrub.ensures.makes slots still);
 }
 
-pub returns-else-branch-clause-makes : goal.returns-else-branch-clause-makes
-returns-else-branch-clause-makes g c = λ slots closed. makes_rest c.steps.moved c.steps.volume.geometry c.steps.invariant.same.geometry (omega (arith, c.steps.invariant.few, c.steps.invariant.blocks)) (c.steps.invariant.makes slots closed) (λ still. rw c.if-branch.false at (c.in_ok-scrub_turn.ensures.makes slots still))
+pub returns-else-has_moved-clause-makes : goal.returns-else-has_moved-clause-makes
+returns-else-has_moved-clause-makes g c = λ slots closed. makes_rest c.steps.moved c.in_ok-scrub.scrub c.steps.volume.geometry (sym c.if-has_moved.false ∙ c.has_moved.ensures) c.steps.invariant.same.geometry (omega (arith, c.steps.invariant.few, c.steps.invariant.blocks)) (c.steps.invariant.makes slots closed) (λ still. c.in_ok-scrub.ensures.makes slots still)
 
-pub returns-in_err-scrub_turn-clause-makes : goal.returns-in_err-scrub_turn-clause-makes
-returns-in_err-scrub_turn-clause-makes g c =
-    let failed = c.in_err-scrub_turn in
+pub returns-in_err-scrub-clause-makes : goal.returns-in_err-scrub-clause-makes
+returns-in_err-scrub-clause-makes g c =
+    let failed = c.in_err-scrub in
     let is : c.from_residual.result ≡ Err failed.field-0.0 = search rules in
     rw is (λ slots closed. makes_fails c.steps.moved failed.field-0.0 c.steps.volume.geometry c.steps.invariant.same.geometry (c.steps.invariant.makes slots closed) (λ still. failed.ensures.makes slots still))
 

@@ -9,11 +9,11 @@ returns-in-Err-clause-scrubs g c = λ slots closed. ends_stopped c.in-Err.ending
 pub returns-in-Ok-say-clause-scrubs : goal.returns-in-Ok-say-clause-scrubs
 returns-in-Ok-say-clause-scrubs g c = λ slots closed.
     let t = c.in-Ok.tally in
-    let line : c.as_slice.result.now ≡ scrub_text t.moved t.free = c.as_slice.ensures.value ∙ c.tally_line.ensures in
+    let line : c.as_slice.result.now ≡ scrub_text t.moved t.free t.last = c.as_slice.ensures.value ∙ c.tally_line.ensures in
     ends_said t (makes_ok c.in-Ok.is (c.scrub_and_count.ensures.makes slots closed)) line c.say.ensures.says c.say.ensures.cuts c.in-Ok-say.ensures.done
 
 pub returns-in-Err-say-clause-scrubs : goal.returns-in-Err-say-clause-scrubs
 returns-in-Err-say-clause-scrubs g c = λ slots closed.
     let t = c.in-Ok.tally in
-    let line : c.as_slice.result.now ≡ scrub_text t.moved t.free = c.as_slice.ensures.value ∙ c.tally_line.ensures in
+    let line : c.as_slice.result.now ≡ scrub_text t.moved t.free t.last = c.as_slice.ensures.value ∙ c.tally_line.ensures in
     ends_broken t (makes_ok c.in-Ok.is (c.scrub_and_count.ensures.makes slots closed)) line c.say.ensures.says c.say.ensures.cuts

@@ -4,7 +4,7 @@ use Rattle.tool_core.proofs.Among.{unsettled_among}
 use Rattle.tool_core.proofs.scrubbing.scrub_turn.Goals as goal
 
 pub returns-in-Ok-clause-makes : goal.returns-in-Ok-clause-makes
-returns-in-Ok-clause-makes g c = λ slots closed. turn_ok slots c.in-Ok.scrub c.has_moved.result c.has_moved.ensures c.in-Ok.is c.requires.takes c.scrub.ensures closed
+returns-in-Ok-clause-makes g c = λ slots closed. turn_ok slots c.in-Ok.scrub c.in-Ok.is c.requires.takes c.scrub.ensures closed
 
 pub returns-in-Err-clause-makes : goal.returns-in-Err-clause-makes
 returns-in-Err-clause-makes g c = λ slots closed. rw c.unsettled.ensures.ends (turn_err slots c.in-Err.why c.in-Err.is c.requires.takes c.scrub.ensures closed)

@@ -4,7 +4,7 @@ use Rattle.flash_view.proofs.Looking.{looks_none}
 use Rattle.flash_view.proofs.Stepped.{view_image}
 use Rattle.vol_check.proofs.Working.{look_works, works_as, works_end, works_stop}
 use Rattle.vol_check.proofs.Passing.{from_bool_is}
-use Rattle.vol_check.proofs.Staged.{cleaning_start, cleaning_next, cleaning_end}
+use Rattle.vol_check.proofs.Staged.{may_clean_on, cleaning_start, cleaning_next, cleaning_end}
 use Rattle.vol_check.proofs.entries.clean_entries.Goals as goal
 
 pub loop-page-init : goal.loop-page-init
@@ -15,7 +15,7 @@ clean_entry-requires g c = let was = c.loop-page.invariant in rw was.work.step.f
 
 pub returns-in_err-clean_entry-clause-work : goal.returns-in_err-clean_entry-clause-work
 returns-in_err-clean_entry-clause-work g c =
-    works_stop c.loop-page.invariant.work c.in_err-clean_entry.ensures c.from_residual.ensures.0 (λ tells magics need. record { needs = tt; idle = λ quiet. quiet }) (λ tells magics need was. record { needs = tt; idle = λ quiet. quiet c.loop-page.page })
+    works_stop c.loop-page.invariant.work c.in_err-clean_entry.ensures c.from_residual.ensures.0 (λ tells magics need. record { needs = need; idle = λ quiet. quiet }) (λ tells magics need was. record { needs = may_clean_on _ _ _ _ need was.kills; idle = λ quiet. quiet c.loop-page.page })
 
 pub loop-page-preserved : goal.loop-page-preserved
 loop-page-preserved g c =
@@ -24,7 +24,7 @@ loop-page-preserved g c =
     record {
       end = was.end;
       few = omega (arith, more.1, was.few, c.from.ensures);
-      work = works_end was.work c.in_ok-clean_entry.ensures (λ tells magics need. record { needs = tt; idle = λ quiet. quiet }) (λ tells magics need before. record { needs = tt; idle = λ quiet. quiet c.loop-page.page })
+      work = works_end was.work c.in_ok-clean_entry.ensures (λ tells magics need. record { needs = need; idle = λ quiet. quiet }) (λ tells magics need before. record { needs = may_clean_on _ _ _ _ need before.kills; idle = λ quiet. quiet c.loop-page.page })
           (λ tells magics need before kept turn. cleaning_next _ _ _ _ _ _ _ _ before turn (omega (arith, more.0, c.from.ensures)));
     }
 
@@ -32,4 +32,4 @@ pub returns-clause-work : goal.returns-clause-work
 unfolding page_count per_block
 returns-clause-work g c =
     let was = c.loop-page.invariant in
-    works_as was.work (λ tells magics need. record { needs = tt; idle = λ quiet. quiet }) (λ tells magics need kept all. cleaning_end _ _ _ _ _ (omega (arith, was.end, c.loop-page-test.false)) all)
+    works_as was.work (λ tells magics need. record { needs = need; idle = λ quiet. quiet }) (λ tells magics need kept all. cleaning_end _ _ _ _ _ (omega (arith, was.end, c.loop-page-test.false)) all)

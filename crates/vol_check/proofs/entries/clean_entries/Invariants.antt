@@ -9,5 +9,5 @@ abbrev pub invariant-loop-page : goal.invariant-loop-page
 invariant-loop-page g l = record {
   end : l.page-end ≡ page_count l.fn.v.geometry;
   few : l.killed ≤ l.page;
-  work : Worked l.fn.v l.v (Ok l.killed) (cleaning_to l.page);
+  work : Worked l.fn.v l.v (Ok l.killed) (cleaning_to l.own l.page);
 }

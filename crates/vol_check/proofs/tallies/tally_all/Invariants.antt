@@ -1,6 +1,7 @@
 -- What the blocks so far add, and those to come.
 use Rattle.std.proofs.Common.{◌≡◌, ◌*◌}
 use Rattle.flash_view.specs.Same.{OnlyLooks}
+use Rattle.vol_check.specs.Owned.{OwnIf}
 use Rattle.vol_check.specs.Needed.{MarksUses}
 use Rattle.vol_check.specs.Used.{IsFew}
 use Rattle.vol_check.proofs.TallySums.{TalliesTo}
@@ -13,5 +14,5 @@ invariant-loop-block g l = record {
   few : IsFew (65535 * l.block) l.all;
   told :
       (let image = g.N.NorState.bytes l.fn.v.nor.now in
-      g.N.NorState.tells l.fn.v.nor.now → MarksUses l.fn.v.geometry image l.marks → TalliesTo l.fn.v.geometry image l.block l.all);
+      g.N.NorState.tells l.fn.v.nor.now → OwnIf l.own l.fn.v.geometry image → MarksUses l.fn.v.geometry image l.marks → TalliesTo l.fn.v.geometry image l.block l.all);
 }

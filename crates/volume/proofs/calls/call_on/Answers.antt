@@ -1,4 +1,3 @@
-use Rattle.std.proofs.Common.{rules}
 use Rattle.volume.proofs.calls.call_on.Goals.{in-Ok, in-Err}
 use Rattle.volume.proofs.calls.call_on.Goals as goal
 

@@ -23,7 +23,7 @@ pub returns-clause-scrubs : goal.returns-clause-scrubs
 returns-clause-scrubs g c =
     let step = c.scrub_step-result.ensures.step in
     let image : g.N.NorState.tells c.args.nor.now → IsImage c.args.g (g.N.NorState.bytes c.args.nor.now) = λ tells. record { len = (let sized = g.met.N.Nor.sized _ tells in omega (arith, sized, c.requires.fits)) } in
-    let made = scrubs_on {nor = g.N.NorState} image step refl c.scrub_step-result.ensures.rest c.scrub_step-result.ensures.few in
+    let made = scrubs_on {nor = g.N.NorState} image step refl c.scrub_step-result.ensures.idle in
     let given_back : (d : _) → d ≡ c.scrub_step-result.new.v.nor.now → ScrubsOn g.N.NorState c.args.g c.args.limit c.args.nor.now d c.scrub_step-result.new.v.wrote c.scrub_step-result.result = λ d e. rw e made in
     given_back _ (search rules)
 

@@ -60,6 +60,8 @@ pub enum Start {
     Format,
     /// Mounted and checked.
     Check,
+    /// Mounted, and checked as a volume that this engine alone wrote.
+    Own,
     /// Mounted alone.
     Mount,
     /// Mounted, and resumed without a check.
@@ -111,6 +113,7 @@ pub fn on(
     volume.mount()?;
     match how {
         Start::Mount => {}
+        Start::Own => drop(volume.check_own(&mut check).map_err(text_of)?),
         Start::Resume => volume.resume().map_err(text_of)?,
         Start::Format | Start::Check => drop(volume.check(&mut check).map_err(text_of)?),
     }

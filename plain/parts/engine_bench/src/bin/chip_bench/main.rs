@@ -106,6 +106,7 @@ fn starts(g: &Geometry, half: &[u8], frames: &[usize]) -> Done {
         let sized = Sized { g, frames };
         sized.start("start, half full", half, Start::Check)?;
         sized.start("mount", half, Start::Mount)?;
+        sized.start("mount and check_own", half, Start::Own)?;
         sized.start("mount and resume", half, Start::Resume)?;
     }
     Ok(())

@@ -4,17 +4,22 @@
 //! against files in memory. The power goes off inside drawn programs and erases, also while the volume is checked. Then the files have to be those
 //! at some point of the calls, no earlier than the last one that returned but for bytes that may wait. With two free blocks each call, and a cut in it
 //! with a check that isn't cut, leaves two, and no call but one that truncates is refused as `Tight`. A life of the volume that isn't cut ends
-//! by an unmount, and half of these are followed by a `resume` in the place of a check. It tells how many calls, cuts and refusals there were; at the
-//! first thing that is wrong it tells that, and ends with 1.
+//! by an unmount, and half of these are followed by a `resume` in the place of a check. Half of the checks are `check_own`: before each start what
+//! that wants of the chip is held to be so, and after it the chip and the report to be those of a `check`. It tells how many calls, cuts and refusals
+//! there were; at the first thing that is wrong it tells that, and ends with 1.
 
 mod chip;
 mod life;
 mod model;
+mod own;
 
 use chip::Chip;
 use life::{End, Life, files_of, has_two, sizes};
-use liverymenhir::{CheckErr, FdSlot, FsErr, Geometry, Lent, MagicKind, MountErr, Volume, format};
+use liverymenhir::{
+    CheckErr, FdSlot, FsErr, Geometry, Lent, MagicKind, MountErr, Report, Volume, format,
+};
 use model::{Model, Table, Write};
+use own::{checked, written_free_page};
 use std::env;
 use std::error::Error;
 
@@ -35,6 +40,37 @@ struct Memory {
     check: Vec<u8>,
 }
 
+impl Memory {
+    fn new(g: &Geometry, frames: usize) -> Self {
+        Memory {
+            work: vec![0xA5; g.work_need() as usize],
+            cache: vec![0xA5; g.cache_need() as usize * frames],
+            window: vec![0xA5; g.page() as usize],
+            slots: vec![FdSlot::empty(); 4],
+            check: vec![0xA5; g.check_need() as usize],
+        }
+    }
+
+    // What is lent to a volume, and to its check.
+    fn lent(&mut self) -> (Lent<'_>, &mut [u8]) {
+        let lent = Lent {
+            work: &mut self.work,
+            slots: &mut self.slots,
+            cache: &mut self.cache,
+            window: &mut self.window,
+        };
+        (lent, &mut self.check)
+    }
+}
+
+/// What follows a mount.
+#[derive(Clone, Copy, PartialEq)]
+enum Start {
+    Check,
+    Own,
+    Resume,
+}
+
 /// What was left when the power went off: what was called, and what it would leave.
 type Left = Option<(Option<Write>, Table)>;
 
@@ -50,30 +86,51 @@ struct Soak {
     had_two: bool,
     calls: u64,
     cuts: u64,
+    owns: u64,
     resumes: u64,
     refusals: u64,
 }
 
 impl Soak {
-    // Mounts and checks, or resumes, and holds the files against the model. The answer is whether the power stayed on.
+    // How a volume is started: after an unmount some are resumed, and half of the others are checked as own volumes.
+    fn draw_start(&mut self) -> Start {
+        let resume = self.is_tidy && drawn(&mut self.seed, 2) == 0;
+        self.is_tidy = false;
+        if resume {
+            self.resumes += 1;
+            return Start::Resume;
+        }
+        if drawn(&mut self.seed, 2) == 0 {
+            self.owns += 1;
+            return Start::Own;
+        }
+        Start::Check
+    }
+
+    // Mounts and starts a volume, and reads its files. None are told where the power went off.
     fn start(
         g: &Geometry,
         volume: &mut Volume<'_, Chip>,
         check: &mut [u8],
-        resume: bool,
+        how: Start,
     ) -> Result<Option<Table>, String> {
+        let before = volume.nor().bytes.clone();
+        if let Some(page) = written_free_page(g, &before) {
+            return Err(format!("page {page} is free and not erased"));
+        }
         match volume.mount() {
             Ok(()) => {}
             Err(MountErr::DeviceFault) => return Ok(None),
             Err(why) => return Err(format!("mount of {} blocks: {why:?}", g.blocks())),
         }
-        let checked = if resume {
-            volume.resume()
-        } else {
-            volume.check(check).map(drop)
+        let started = match how {
+            Start::Resume => volume.resume().map(|()| None),
+            Start::Own => volume.check_own(check).map(Some),
+            Start::Check => volume.check(check).map(|_| None),
         };
-        match checked {
-            Ok(()) => {}
+        match started {
+            Ok(Some(report)) => Self::compare(g, before, report, &volume.nor().bytes)?,
+            Ok(None) => {}
             Err(CheckErr::DeviceFault) => return Ok(None),
             Err(why) => return Err(format!("check: {why:?}")),
         }
@@ -83,8 +140,18 @@ impl Soak {
             .map_err(|why| format!("files after a start: {why:?}"))
     }
 
+    // Holds what a check of an own volume told and left against a check.
+    fn compare(g: &Geometry, before: Vec<u8>, report: Report, now: &[u8]) -> Result<(), String> {
+        let whole = checked(g, before)?;
+        if whole.0 != report || whole.1 != now {
+            return Err(format!("check_own: {report:?}; check: {:?}", whole.0));
+        }
+        Ok(())
+    }
+
     // A life of the volume: it is started, and takes calls until the power goes off or so many are done.
     fn live(&mut self, most: u64) -> Result<(), String> {
+        let how = self.draw_start();
         let Soak {
             g,
             memory,
@@ -96,17 +163,9 @@ impl Soak {
         chip.is_off = false;
         chip.left =
             u64::from(drawn(seed, 6)) * u64::from(drawn(seed, 1000)) + u64::from(drawn(seed, 40));
-        let lent = Lent {
-            work: &mut memory.work,
-            slots: &mut memory.slots,
-            cache: &mut memory.cache,
-            window: &mut memory.window,
-        };
-        let resume = self.is_tidy && drawn(seed, 2) == 0;
-        self.resumes += u64::from(resume);
-        self.is_tidy = false;
+        let (lent, check) = memory.lent();
         let mut volume = Volume::new(*g, chip, lent);
-        let Some(found) = Self::start(g, &mut volume, &mut memory.check, resume)? else {
+        let Some(found) = Self::start(g, &mut volume, check, how)? else {
             self.cuts += 1;
             self.had_two = false;
             return Ok(());
@@ -181,13 +240,7 @@ fn main() -> Result<(), Box<dyn Error>> {
         seed,
     };
     format(&g, &mut chip)?;
-    let memory = Memory {
-        work: vec![0xA5; g.work_need() as usize],
-        cache: vec![0xA5; g.cache_need() as usize * frames],
-        window: vec![0xA5; g.page() as usize],
-        slots: vec![FdSlot::empty(); 4],
-        check: vec![0xA5; g.check_need() as usize],
-    };
+    let memory = Memory::new(&g, frames);
     let mut soak = Soak {
         g,
         memory,
@@ -199,6 +252,7 @@ fn main() -> Result<(), Box<dyn Error>> {
         had_two: true,
         calls: 0,
         cuts: 0,
+        owns: 0,
         resumes: 0,
         refusals: 0,
     };
@@ -212,10 +266,13 @@ fn main() -> Result<(), Box<dyn Error>> {
     let Soak {
         calls,
         cuts,
+        owns,
         resumes,
         refusals,
         ..
     } = soak;
-    println!("{calls} calls, {cuts} cuts, {resumes} resumes, {refusals} refusals");
+    println!(
+        "{calls} calls, {cuts} cuts, {owns} checks of an own volume, {resumes} resumes, {refusals} refusals"
+    );
     Ok(())
 }
